@@ -1,0 +1,13 @@
+//! Faults: what was refused, in which layer, and where.
+
+mod fault;
+mod text;
+
+pub use fault::BookCause;
+pub use fault::CallCause;
+pub use fault::EnsembleCause;
+pub use fault::Fault;
+pub use fault::HostCause;
+pub use fault::Layer;
+pub use fault::OrderCause;
+pub use text::FaultDisplay;

@@ -1,0 +1,11 @@
+pub mod Bytes
+pub mod Sets
+pub mod Checks
+pub mod Expression
+pub mod Book
+pub mod File
+pub mod WellFormed
+pub mod Layout
+pub mod Parsed
+pub mod Reading
+pub mod Exact
