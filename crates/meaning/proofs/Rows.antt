@@ -24,3 +24,13 @@ module _ {S : Type 0} (f : ℕ → S → Result S Fault) where
   -- the end of the loop
   pub ends : (n i : ℕ) (s : S) → n ≤ i → through f (n - i) i s ≡ Ok s
   ends n i s h = let left : n - i ≡ 0 = omega arith in ap (λ k. through f k i s) left
+
+-- a test that was passed, and what came after it
+pub passed : {A : Type 0} (c : Bool) (f : Fault) (next : Result A Fault) (x : A) → require c f next ≡ Ok x → (c ≡ true) × (next ≡ Ok x)
+passed true f next x e = (refl, e)
+passed false f next x e = absurd (let z : _≡_ {A = ℕ} 0 1 = cc in omega arith)
+
+-- the two parts of a bind that went through
+pub both : {A B : Type 0} (r : Result A Fault) (next : A → Result B Fault) (y : B) → bind r next ≡ Ok y → (x : A) × (r ≡ Ok x) × (next x ≡ Ok y)
+both (Ok x) next y e = (x, refl, e)
+both (Err f) next y e = absurd (let z : _≡_ {A = ℕ} 0 1 = cc in omega arith)

@@ -2,7 +2,7 @@
 use mathlib.Core.Path.{_≡_, refl, sym, ap, subst, _∙_}
 use mathlib.Core.List.{List, [], _∷_, _++_}
 use mathlib.Core.Logic.{_⊎_, inl, inr, ⊎-elim}
-use Prim.Native.Nat.{ℕ, zero, suc, _+_, _*_, _-_, _≤_, _<_}
+use Prim.Native.Nat.{ℕ, zero, suc, _+_, _*_, _/_, _%_, _-_, _≤_, _<_}
 use native.Mathlib.Nat.{add-zero, zero-add}
 use native.Mathlib.Omega.{arith}
 use lib.ListN.{length, getD, take, drop}
@@ -67,15 +67,16 @@ two-stands bs p n fit e =
 
 pub four-stands : (bs : List ℕ) (p n : ℕ) → Bytes bs → four-at bs p ≡ n → Stands bs p (four n)
 four-stands bs p n fit e =
+    let c = getD bs (p + 2) 0 ∷ getD bs (p + 3) 0 ∷ [] in
     subst (λ m. Stands bs p (four m)) e (subst (Stands bs p) (sym (four-of bs p fit))
-    (joins bs p (p + 1) (getD bs p 0 ∷ []) _ refl (one bs p _ refl)
-    (joins bs (p + 1) (p + 2) (getD bs (p + 1) 0 ∷ []) _ (omega arith) (one bs (p + 1) _ refl)
+    (joins bs p (p + 1) (getD bs p 0 ∷ []) (getD bs (p + 1) 0 ∷ c) refl (one bs p _ refl)
+    (joins bs (p + 1) (p + 2) (getD bs (p + 1) 0 ∷ []) c (omega arith) (one bs (p + 1) _ refl)
     (joins bs (p + 2) (p + 3) (getD bs (p + 2) 0 ∷ []) (getD bs (p + 3) 0 ∷ []) (omega arith) (one bs (p + 2) _ refl) (one bs (p + 3) _ refl)))))
 
 -- the bytes of a number are read as it
 pub two-read : (bs : List ℕ) (p n : ℕ) → Stands bs p (two n) → two-at bs p ≡ n
-two-read bs p n at = (λ i. 256 * head bs p _ _ at i + at 1 (omega arith) i) ∙ two-from n
+two-read bs p n at = (λ i. 256 * head bs p (n / 256) (n % 256 ∷ []) at i + at 1 (omega arith) i) ∙ two-from n
 
 pub four-read : (bs : List ℕ) (p n : ℕ) → Stands bs p (four n) → four-at bs p ≡ n
 four-read bs p n at =
-    (λ i. 16777216 * head bs p _ _ at i + 65536 * at 1 (omega arith) i + 256 * at 2 (omega arith) i + at 3 (omega arith) i) ∙ four-from n
+    (λ i. 16777216 * head bs p (n / 16777216) (n / 65536 % 256 ∷ n / 256 % 256 ∷ n % 256 ∷ []) at i + 65536 * at 1 (omega arith) i + 256 * at 2 (omega arith) i + at 3 (omega arith) i) ∙ four-from n

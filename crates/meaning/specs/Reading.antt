@@ -37,19 +37,19 @@ counts-checked l =
     (require (leb (l .clauses) 32) (book-fault Count 7 0) (Ok tt))))
 
 -- the header pair at p names the section that starts at `from` and has the given size, inside the file
-abbrev pub section-checked : List ℕ → ℕ → ℕ → ℕ → Verdict
-section-checked bs p from size =
-    require (eqb (two-at bs p) from && (eqb (two-at bs (p + 2)) size && leb (from + size) (length bs))) (book-fault Frame p 0) (Ok tt)
+abbrev pub section-right : List ℕ → ℕ → ℕ → ℕ → Bool
+section-right bs p from size =
+    eqb (two-at bs p) from && (eqb (two-at bs (p + 2)) size && leb (from + size) (length bs))
 
 -- the six header pairs; the code ends the file
-unfoldable pub sections-checked : List ℕ → Layout → Verdict
+abbrev pub sections-checked : List ℕ → Layout → Verdict
 sections-checked bs l =
-    bind (section-checked bs 8 32 (l .resources)) (λ _.
-    bind (section-checked bs 12 (cells-from l) (4 * l .devices)) (λ _.
-    bind (section-checked bs 16 (starts-from l) (4 * l .cells)) (λ _.
-    bind (section-checked bs 20 (rules-from l) (53 * l .rules)) (λ _.
-    bind (section-checked bs 24 (clauses-from l) (5 * l .clauses)) (λ _.
-    section-checked bs 28 (code-from l) (room l))))))
+    require (section-right bs 8 32 (l .resources)) (book-fault Frame 8 0)
+    (require (section-right bs 12 (cells-from l) (4 * l .devices)) (book-fault Frame 12 0)
+    (require (section-right bs 16 (starts-from l) (4 * l .cells)) (book-fault Frame 16 0)
+    (require (section-right bs 20 (rules-from l) (53 * l .rules)) (book-fault Frame 20 0)
+    (require (section-right bs 24 (clauses-from l) (5 * l .clauses)) (book-fault Frame 24 0)
+    (require (section-right bs 28 (code-from l) (room l)) (book-fault Frame 28 0) (Ok tt))))))
 
 -- a device's mask names only resources
 abbrev pub mask-checked : List ℕ → Layout → ℕ → Unit {0} → Verdict
