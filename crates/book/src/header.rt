@@ -15,19 +15,15 @@ use super::bytes::byte;
 use super::bytes::four;
 use super::bytes::two;
 use super::layout::Layout;
+use super::offsets::CLAUSE;
+use super::offsets::HEADER;
+use super::offsets::RULE;
 use super::refusal::refusal;
 use fault::BookCause;
 use fault::Fault;
 
 /// The first bytes of a book file: `ABU1`.
 const FIRST: u32 = 0x4142_5531;
-/// The bytes of a header, after which the first section begins.
-const HEADER: usize = 32;
-/// The bytes of a rule.
-pub const RULE: usize = 53;
-/// The bytes of a clause.
-pub const CLAUSE: usize = 5;
-
 fn first(bytes: &[u8]) -> Result<(), Fault>
     ensures { λ r. ⌜ r ≡ first-checked (now (bytes .entry)) ⌝ }
 {

@@ -2,10 +2,15 @@
 
 mod book;
 mod bytes;
+mod expressions;
+mod fields;
 mod header;
 mod layout;
+mod offsets;
+mod opcode;
 mod refusal;
 mod rule;
+mod scope;
 
 pub use book::Book;
 pub use rule::Action;

@@ -43,7 +43,7 @@ drop-front : (b : ℕ) (bs : List ℕ) (n : ℕ) → 1 ≤ n → drop (n - 1) bs
 drop-front b bs n h = let back : suc (n - 1) ≡ n = omega arith in ap (λ k. drop k (b ∷ bs)) back
 
 -- what bytes spell, by what stands at their front
-decoded-front : (bs : List ℕ) (f : Front) → front bs ≡ Some f → 1 ≤ f .size → decoded-after 0 bs ≡ f .instruction ∷ decoded-after 0 (drop (f .size) bs)
+pub decoded-front : (bs : List ℕ) (f : Front) → front bs ≡ Some f → 1 ≤ f .size → decoded-after 0 bs ≡ f .instruction ∷ decoded-after 0 (drop (f .size) bs)
 unfolding decoded-after
 decoded-front [] f e h = absurd (let z : _≡_ {A = ℕ} 0 1 = cc in omega arith)
 decoded-front (b ∷ bs) f e h =
@@ -56,7 +56,7 @@ judged s at depth bs None = Some at
 judged s at depth bs (Some f) =
     cond (may-stand s depth (f .instruction)) (wrong-after s (f .size - 1) (at + f .size) (deepened depth (f .instruction)) bs) (Some at)
 
-wrong-front : (s : Scope) (at depth : ℕ) (bs : List ℕ) (f : Front) → front bs ≡ Some f → 1 ≤ f .size → wrong-after s 0 at depth bs ≡ cond (may-stand s depth (f .instruction)) (wrong-after s 0 (at + f .size) (deepened depth (f .instruction)) (drop (f .size) bs)) (Some at)
+pub wrong-front : (s : Scope) (at depth : ℕ) (bs : List ℕ) (f : Front) → front bs ≡ Some f → 1 ≤ f .size → wrong-after s 0 at depth bs ≡ cond (may-stand s depth (f .instruction)) (wrong-after s 0 (at + f .size) (deepened depth (f .instruction)) (drop (f .size) bs)) (Some at)
 unfolding wrong-after
 wrong-front s at depth [] f e h = absurd (let z : _≡_ {A = ℕ} 0 1 = cc in omega arith)
 wrong-front s at depth (b ∷ bs) f e h =
@@ -65,7 +65,7 @@ wrong-front s at depth (b ∷ bs) f e h =
     ap (judged s at depth bs) e ∙ ap (λ r. cond (may-stand s depth i) r (Some at)) (wrong-skip s (f .size - 1) (at + f .size) (deepened depth i) bs ∙ rest)
 
 -- bytes that are no instruction
-wrong-end : (s : Scope) (at depth b : ℕ) (bs : List ℕ) → front (b ∷ bs) ≡ None → wrong-after s 0 at depth (b ∷ bs) ≡ Some at
+pub wrong-end : (s : Scope) (at depth b : ℕ) (bs : List ℕ) → front (b ∷ bs) ≡ None → wrong-after s 0 at depth (b ∷ bs) ≡ Some at
 unfolding wrong-after
 wrong-end s at depth b bs e = ap (judged s at depth bs) e
 
@@ -98,7 +98,7 @@ front-of s (Apply Or) rest h = opened (opcode Or) rest _ _
 front-of s (Apply Not) rest h = opened (opcode Not) rest _ _
 front-of s (Apply Absolute) rest h = opened (opcode Absolute) rest _ _
 
-some-byte : (i : Instruction) → 1 ≤ length (encoded-instruction i)
+pub some-byte : (i : Instruction) → 1 ≤ length (encoded-instruction i)
 some-byte (Constant v) = omega arith
 some-byte (Own r) = omega arith
 some-byte (Receiver r) = omega arith
@@ -122,7 +122,6 @@ encoded-right-from s at depth (i ∷ e) h =
 -- some bytes begin with those of an instruction
 pub record Begins (bs : List ℕ) (f : Front) : Type 0 where
   pub some : 1 ≤ f .size
-  pub within : f .size ≤ length bs
   pub spells : encoded-instruction (f .instruction) ++ drop (f .size) bs ≡ bs
 
 -- what the front of some bytes tells of them
@@ -141,7 +140,7 @@ first-drop n bs h =
 
 begins : (n : ℕ) (bs : List ℕ) (i : Instruction) → 1 ≤ n → n ≤ length bs → encoded-instruction i ≡ first n bs → Begins bs (record { instruction = i; size = n })
 begins n bs i some within e =
-    record { some = some; within = within; spells = ap (λ l. l ++ drop n bs) e ∙ first-drop n bs within }
+    record { some = some; spells = ap (λ l. l ++ drop n bs) e ∙ first-drop n bs within }
 
 sized-told : (n : ℕ) (bs : List ℕ) (i : Instruction) → 1 ≤ n → encoded-instruction i ≡ first n bs → Told bs (sized n bs i)
 sized-told n bs i some e =
@@ -185,6 +184,32 @@ front-told bs fit =
 -- the instruction at the front has its bytes there
 pub front-is : (bs : List ℕ) (f : Front) → Bytes bs → front bs ≡ Some f → Begins bs f
 front-is bs f fit e = subst (Told bs) e (front-told bs fit)
+
+-- the bytes that an instruction takes are there, as many as its encoding has
+pub record Takes (bs : List ℕ) (f : Front) : Type 0 where
+  pub size-is : f .size ≡ length (encoded-instruction (f .instruction))
+  pub within : f .size ≤ length bs
+
+abbrev Taking : List ℕ → Option Front → Type 0
+Taking bs None = Unit {0}
+Taking bs (Some f) = Takes bs f
+
+sized-takes : (n : ℕ) (bs : List ℕ) (i : Instruction) → n ≡ length (encoded-instruction i) → Taking bs (sized n bs i)
+sized-takes n bs i e =
+    cond-both (leb n (length bs)) _ None (Taking bs) (λ h. record { size-is = e; within = leb-true n (length bs) h }) (λ _. tt)
+
+front-taking : (bs : List ℕ) → Taking bs (front bs)
+front-taking bs =
+    let op = getD bs 0 0 in
+    let P = Taking bs in
+    cond-both (eqb (length bs) 0) None _ P (λ _. tt) (λ some.
+    cond-both (eqb op 0) _ _ P (λ _. sized-takes 5 bs _ refl) (λ _.
+    cond-both (eqb op 1) _ _ P (λ _. sized-takes 2 bs _ refl) (λ _.
+    cond-both (eqb op 2) _ _ P (λ _. sized-takes 2 bs _ refl) (λ _.
+    cond-both (leb 3 op && ltb op 15) _ None (λ o. P (applied o)) (λ _. record { size-is = refl; within = omega (arith, eqb-false (length bs) 0 some) }) (λ _. tt)))))
+
+pub front-takes : (bs : List ℕ) (f : Front) → front bs ≡ Some f → Takes bs f
+front-takes bs f e = subst (Taking bs) e (front-taking bs)
 
 -- an answer that is none came by the first way
 no-fault : (c : Bool) (r : Option ℕ) (at : ℕ) → cond c r (Some at) ≡ None → (c ≡ true) × (r ≡ None)

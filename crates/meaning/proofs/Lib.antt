@@ -3,3 +3,15 @@ pub mod Stands
 pub mod Rows
 pub mod Expressions
 pub mod Sizes
+pub mod Fills
+pub mod Loops
+pub mod Written
+pub mod SoundActions
+pub mod SoundRules
+pub mod SoundFile
+pub mod Sound
+pub mod Placed
+pub mod CompleteActions
+pub mod CompleteRules
+pub mod CompleteFile
+pub mod Complete

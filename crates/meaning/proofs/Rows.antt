@@ -8,22 +8,27 @@ use Rattle.std.specs.declared.result.Result.the-variants.{Ok, Err}
 use Rattle.fault.specs.declared.fault.Fault.{Fault}
 use Rattle.meaning.specs.Checks.{require, bind, through}
 
+-- a loop over n checks: what is left at i answers what the whole does, w
 module _ {S : Type 0} (f : ℕ → S → Result S Fault) where
-  -- one turn of a loop over n checks, at i
-  pub more : (n i : ℕ) (s t : S) → i < n → f i s ≡ Ok t → through f (n - i) i s ≡ through f (n - (i + 1)) (i + 1) t
-  more n i s t h e =
-      let left : n - i ≡ suc (n - (i + 1)) = omega arith in
-      ap (λ k. through f k i s) left ∙ ap (λ r. bind r (λ u. through f (n - (i + 1)) (i + 1) u)) e
+  -- before the first turn
+  pub begins : (n : ℕ) (s : S) → through f (n - 0) 0 s ≡ through f n 0 s
+  begins n s = let all : n - 0 ≡ n = omega arith in ap (λ k. through f k 0 s) all
 
-  -- the turn that refuses
-  pub stops : (n i : ℕ) (s : S) (y : Fault) → i < n → f i s ≡ Err y → through f (n - i) i s ≡ Err y
-  stops n i s y h e =
+  -- a turn that goes on
+  pub goes-on : (n i : ℕ) (s t : S) (w : Result S Fault) → i < n → f i s ≡ Ok t → through f (n - i) i s ≡ w → through f (n - (i + 1)) (i + 1) t ≡ w
+  goes-on n i s t w h e inv =
       let left : n - i ≡ suc (n - (i + 1)) = omega arith in
-      ap (λ k. through f k i s) left ∙ ap (λ r. bind r (λ u. through f (n - (i + 1)) (i + 1) u)) e
+      sym (ap (λ k. through f k i s) left ∙ ap (λ r. bind r (λ u. through f (n - (i + 1)) (i + 1) u)) e) ∙ inv
 
-  -- the end of the loop
-  pub ends : (n i : ℕ) (s : S) → n ≤ i → through f (n - i) i s ≡ Ok s
-  ends n i s h = let left : n - i ≡ 0 = omega arith in ap (λ k. through f k i s) left
+  -- a turn that refuses
+  pub refuses : (n i : ℕ) (s : S) (y : Fault) (w : Result S Fault) → i < n → f i s ≡ Err y → through f (n - i) i s ≡ w → Err y ≡ w
+  refuses n i s y w h e inv =
+      let left : n - i ≡ suc (n - (i + 1)) = omega arith in
+      sym (ap (λ k. through f k i s) left ∙ ap (λ r. bind r (λ u. through f (n - (i + 1)) (i + 1) u)) e) ∙ inv
+
+  -- after the last turn
+  pub ends : (n i : ℕ) (s : S) (w : Result S Fault) → n ≤ i → through f (n - i) i s ≡ w → Ok s ≡ w
+  ends n i s w h inv = let left : n - i ≡ 0 = omega arith in sym (ap (λ k. through f k i s) left) ∙ inv
 
 -- a test that was passed, and what came after it
 pub passed : {A : Type 0} (c : Bool) (f : Fault) (next : Result A Fault) (x : A) → require c f next ≡ Ok x → (c ≡ true) × (next ≡ Ok x)

@@ -1,6 +1,16 @@
 //! What a book is, what its file is, and what reading it answers: definitions, and the laws that stand above them.
+ghost use Rattle.meaning.specs.Exact.{Sound, Complete, Single};
 
 mod instruction;
 
 pub use instruction::Instruction;
 pub use instruction::Operator;
+
+/// Reading accepts exactly the files of well-formed books and answers that book, so no two files yield one book.
+pub fn reading_is_exact() -> bool
+    ensures sound { λ _. ⌜ Sound ⌝ }
+    ensures complete { λ _. ⌜ Complete ⌝ }
+    ensures single { λ _. ⌜ Single ⌝ }
+{
+    true
+}

@@ -1,6 +1,5 @@
 -- A part of the header that refuses is the first check that fails.
 use mathlib.Core.Path.{_≡_, sym}
-use borrow.Author.Needs.{needs}
 use Rattle.std.specs.declared.result.Result.the-variants.{Err}
 use Rattle.meaning.specs.Layout.{layout}
 use Rattle.meaning.specs.Reading.{sections-checked, checked}
