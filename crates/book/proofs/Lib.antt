@@ -1,3 +1,4 @@
 pub mod Exits
 pub mod Printed
 pub mod Walk
+pub mod Filled

@@ -2,17 +2,26 @@
 
 mod book;
 mod bytes;
+mod cells;
+mod draft;
 mod expressions;
 mod fields;
+mod fill;
 mod header;
 mod layout;
 mod offsets;
 mod opcode;
+mod reader;
 mod refusal;
 mod rule;
 mod scope;
+mod smallest;
+mod spelling;
 
 pub use book::Book;
+pub use draft::Draft;
+pub use opcode::front;
+pub use reader::read;
 pub use rule::Action;
 pub use rule::Clause;
 pub use rule::Kind;

@@ -67,7 +67,7 @@ module _ (b : Book) (fine : WellFormed b) where
   l = counts b
 
   started : length (b .starts) ≡ count-cells (b .cells)
-  started = fine .8
+  started = fine .2 .2
 
   long : code-from l + room l ≤ length bs
   long = omega (arith, room-is b started, file-long b started)
@@ -78,10 +78,10 @@ module _ (b : Book) (fine : WellFormed b) where
 
   counts-pass : counts-checked l ≡ Ok tt
   counts-pass =
-      granted _ _ _ (and-from _ _ (le-leb _ _ (fine .0)) (le-leb _ _ (fine .1)))
-      ∙ granted _ _ _ (and-from _ _ (le-leb _ _ (fine .2)) (le-leb _ _ (fine .3)))
-      ∙ granted _ _ _ (le-leb _ _ (fine .4))
-      ∙ granted _ _ _ (le-leb _ _ (fine .5))
+      granted _ _ _ (and-from _ _ (le-leb _ _ (fine .0 .0)) (le-leb _ _ (fine .0 .1)))
+      ∙ granted _ _ _ (and-from _ _ (le-leb _ _ (fine .0 .2)) (le-leb _ _ (fine .0 .3)))
+      ∙ granted _ _ _ (le-leb _ _ (fine .1 .0))
+      ∙ granted _ _ _ (le-leb _ _ (fine .1 .1))
 
   pair-at : (p : ℕ) → Stands bs p (take 4 (drop p bs))
   pair-at p = inside bs 0 p p 4 bs (sym (zero-add p)) (itself bs)
@@ -105,15 +105,15 @@ module _ (b : Book) (fine : WellFormed b) where
 
   masks-pass : through (mask-checked bs l) (l .devices) 0 tt ≡ Ok tt
   masks-pass =
-      all-pass (mask-checked bs l) (l .devices) 0 (λ d h. let inside : d < devices b = omega arith in granted _ _ _ (ap (λ m. under m (resources b)) (mask-read d inside) ∙ every-at (λ m. under m (resources b)) (b .cells) d 0 (fine .7) inside))
+      all-pass (mask-checked bs l) (l .devices) 0 (λ d h. let inside : d < devices b = omega arith in granted _ _ _ (ap (λ m. under m (resources b)) (mask-read d inside) ∙ every-at (λ m. under m (resources b)) (b .cells) d 0 (fine .2 .1) inside))
 
   rules-fine : Each rule-code (RuleFine b) 0 0 (b .rules)
   rules-fine =
-      each-both rule-code (RuleHeld b) _ 0 0 (b .rules) (rules-held b started) (each-both rule-code (λ _ _ r. right-rule (devices b) (resources b) r ≡ true) _ 0 0 (b .rules) (each-every rule-code (right-rule (devices b) (resources b)) 0 0 (b .rules) (fine .10)) (each-every rule-code (carried b) 0 0 (b .rules) (fine .12)))
+      each-both rule-code (RuleHeld b) _ 0 0 (b .rules) (rules-held b started) (each-both rule-code (λ _ _ r. right-rule (devices b) (resources b) r ≡ true) _ 0 0 (b .rules) (each-every rule-code (right-rule (devices b) (resources b)) 0 0 (b .rules) (fine .3 .0)) (each-every rule-code (carried b) 0 0 (b .rules) (fine .3 .2)))
 
   clauses-fine : Each clause-code (ClauseFine b) 0 (tests-from b) (b .clauses)
   clauses-fine =
-      each-both clause-code (ClauseHeld b) _ 0 (tests-from b) (b .clauses) (clauses-held b started) (each-both clause-code (λ _ _ x. right-clause (devices b) (resources b) x ≡ true) _ 0 (tests-from b) (b .clauses) (each-every clause-code (right-clause (devices b) (resources b)) 0 (tests-from b) (b .clauses) (fine .11)) (each-every clause-code (readable b) 0 (tests-from b) (b .clauses) (fine .13)))
+      each-both clause-code (ClauseHeld b) _ 0 (tests-from b) (b .clauses) (clauses-held b started) (each-both clause-code (λ _ _ x. right-clause (devices b) (resources b) x ≡ true) _ 0 (tests-from b) (b .clauses) (each-every clause-code (right-clause (devices b) (resources b)) 0 (tests-from b) (b .clauses) (fine .3 .1)) (each-every clause-code (readable b) 0 (tests-from b) (b .clauses) (fine .3 .3)))
 
   fields-pass : fields-checked bs l ≡ Ok tt
   unfolding fields-checked
@@ -168,7 +168,7 @@ module _ (b : Book) (fine : WellFormed b) where
   start-read : (k : ℕ) → k < length (b .starts) → start-at bs (starts-from l + 4 * k) ≡ getD (b .starts) k (pos 0)
   start-read k h =
       let z = getD (b .starts) k (pos 0) in
-      let fits : SFits w32 z = record { sfits = ltb-true _ _ (every-at (λ y. ltb (mag y) 2147483648) (b .starts) k (pos 0) (fine .9) h) } in
+      let fits : SFits w32 z = record { sfits = ltb-true _ _ (every-at (λ y. ltb (mag y) 2147483648) (b .starts) k (pos 0) (fine .2 .3) h) } in
       ap (toZ w32) (number-read (ofZ w32) (pos 0) bs (starts-from l) (b .starts) (starts-stand b started) k h) ∙ toZ-ofZ w32 z fits
 
   book-spelt : spelt bs l ≡ b
@@ -184,4 +184,4 @@ module _ (b : Book) (fine : WellFormed b) where
 pub complete : (b : Book) → WellFormed b → reading (encoded b) ≡ Ok b
 unfolding reading
 complete b fine =
-    ap (λ l. bind (checked (encoded b) l) (λ _. Ok (spelt (encoded b) l))) (layout-is b (fine .8)) ∙ bound _ _ _ (checks-pass b fine) ∙ ap Ok (book-spelt b fine)
+    ap (λ l. bind (checked (encoded b) l) (λ _. Ok (spelt (encoded b) l))) (layout-is b (fine .2 .2)) ∙ bound _ _ _ (checks-pass b fine) ∙ ap Ok (book-spelt b fine)

@@ -55,8 +55,8 @@ pub code-fits : (b : Book) → WellFormed b → length (book-code b) ≤ 20480
 code-fits b w =
     let d = devices b in
     let r = resources b in
-    let rules = joined-fits (right-rule d r) rule-code 576 (rule-fits d r) (b .rules) (w .10) in
-    let clauses = joined-fits (right-clause d r) (λ x. encoded-expression (x .test)) 64 (clause-fits d r) (b .clauses) (w .11) in
+    let rules = joined-fits (right-rule d r) rule-code 576 (rule-fits d r) (b .rules) (w .3 .0) in
+    let clauses = joined-fits (right-clause d r) (λ x. encoded-expression (x .test)) 64 (clause-fits d r) (b .clauses) (w .3 .1) in
     simp length-append (omega arith)
 
 -- a set of numbers below r has at most r members
@@ -73,4 +73,4 @@ cells-fit r (m ∷ ms) few h =
     omega (arith, members-fit m r here, cells-fit r ms few more)
 
 pub file-fits : (b : Book) → WellFormed b → 32 + resources b + 4 * devices b + 4 * count-cells (b .cells) + 53 * length (b .rules) + 5 * length (b .clauses) + length (book-code b) ≤ 24512
-file-fits b w = omega (arith, code-fits b w, cells-fit (resources b) (b .cells) (w .3) (w .7))
+file-fits b w = omega (arith, code-fits b w, cells-fit (resources b) (b .cells) (w .0 .3) (w .2 .1))

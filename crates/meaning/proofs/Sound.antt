@@ -146,20 +146,20 @@ module _ (bs : List ℕ) (l : Layout) where
         let counts = counts-right l (all .counts) in
         let named = devices-are in
         let known = resources-are in (
-          omega arith,
-          omega arith,
-          omega arith,
-          omega arith,
-          omega (arith, rules-count),
-          omega (arith, clauses-count),
-          every-row (λ x. ltb x 256) (level-of bs) (l .resources) (λ i lt. lt-ltb (level-of bs i) 256 (fit (32 + i))),
-          with-counts (λ _ n. every (λ m. under m n) (map (mask-of bs l) (counting 0 (l .devices))) ≡ true) masks-under,
-          cells-counted,
-          every-row (λ z. ltb (mag z) 2147483648) (start-of bs l) (l .cells) (λ i lt. lt-ltb _ 2147483648 (read-sfits w32 (four-at bs (starts-from l + 4 * i)) .sfits)),
-          with-counts (λ n m. every (right-rule n m) (rules-of bs l) ≡ true) (rules-are .1),
-          with-counts (λ n m. every (right-clause n m) (clauses-of bs l) ≡ true) (clauses-are .1),
-          all-carried,
-          all-readable,
+          (omega arith, omega arith, omega arith, omega arith),
+          (omega (arith, rules-count), omega (arith, clauses-count)),
+          (
+            every-row (λ x. ltb x 256) (level-of bs) (l .resources) (λ i lt. lt-ltb (level-of bs i) 256 (fit (32 + i))),
+            with-counts (λ _ n. every (λ m. under m n) (map (mask-of bs l) (counting 0 (l .devices))) ≡ true) masks-under,
+            cells-counted,
+            every-row (λ z. ltb (mag z) 2147483648) (start-of bs l) (l .cells) (λ i lt. lt-ltb _ 2147483648 (read-sfits w32 (four-at bs (starts-from l + 4 * i)) .sfits)),
+          ),
+          (
+            with-counts (λ n m. every (right-rule n m) (rules-of bs l) ≡ true) (rules-are .1),
+            with-counts (λ n m. every (right-clause n m) (clauses-of bs l) ≡ true) (clauses-are .1),
+            all-carried,
+            all-readable,
+          ),
         )
 
     -- where the rules' code ends, that of the clauses begins

@@ -49,6 +49,23 @@ carried b x = every (λ d. not (has (x .carriers) d) || within (needs x) (cells-
 abbrev pub readable : Book → Clause → Bool
 readable b x = within (reads 0 (x .test)) (cells-of b (x .device))
 
+-- 1 to 16 devices and 1 to 32 resources
+abbrev pub Counted : Book → Type 0
+Counted b = (1 ≤ devices b) × (devices b ≤ 16) × (1 ≤ resources b) × (resources b ≤ 32)
+
+-- at most 32 rules and 32 clauses
+abbrev pub Few : Book → Type 0
+Few b = (length (b .rules) ≤ 32) × (length (b .clauses) ≤ 32)
+
+-- levels are bytes, masks name only resources, and each cell has a start of 32 bits
+abbrev pub Tabled : Book → Type 0
+Tabled b =
+    (every (λ l. ltb l 256) (b .levels) ≡ true) × (every (λ m. under m (resources b)) (b .cells) ≡ true) × (length (b .starts) ≡ count-cells (b .cells)) × (every (λ z. ltb (mag z) 2147483648) (b .starts) ≡ true)
+
+-- rules and clauses are right, and their cells are there
+abbrev pub Ruled : Book → Type 0
+Ruled b =
+    (every (right-rule (devices b) (resources b)) (b .rules) ≡ true) × (every (right-clause (devices b) (resources b)) (b .clauses) ≡ true) × (every (carried b) (b .rules) ≡ true) × (every (readable b) (b .clauses) ≡ true)
+
 abbrev pub WellFormed : Book → Type 0
-WellFormed b =
-    (1 ≤ devices b) × (devices b ≤ 16) × (1 ≤ resources b) × (resources b ≤ 32) × (length (b .rules) ≤ 32) × (length (b .clauses) ≤ 32) × (every (λ l. ltb l 256) (b .levels) ≡ true) × (every (λ m. under m (resources b)) (b .cells) ≡ true) × (length (b .starts) ≡ count-cells (b .cells)) × (every (λ z. ltb (mag z) 2147483648) (b .starts) ≡ true) × (every (right-rule (devices b) (resources b)) (b .rules) ≡ true) × (every (right-clause (devices b) (resources b)) (b .clauses) ≡ true) × (every (carried b) (b .rules) ≡ true) × (every (readable b) (b .clauses) ≡ true)
+WellFormed b = Counted b × Few b × Tabled b × Ruled b
