@@ -48,14 +48,14 @@ module _ (bs : List ℕ) (c : ℕ) where
   unfolding rule-at
   spelt-rule p few less =
       λ i.
-          record {
-            carriers = rule-spelt bs p .carriers;
-            events = rule-spelt bs p .events;
-            remote = kind-remote (eqb (byte-at bs (p + 6)) 1) i;
-            condition = span-means (p + 9) i;
-            defaults = spelt-action (p + 13) (byte-at bs (p + 7)) few i;
-            tasks = spelt-action (p + 33) (byte-at bs (p + 8)) less i;
-          }
+      record {
+        carriers = rule-spelt bs p .carriers;
+        events = rule-spelt bs p .events;
+        remote = kind-remote (eqb (byte-at bs (p + 6)) 1) i;
+        condition = span-means (p + 9) i;
+        defaults = spelt-action (p + 13) (byte-at bs (p + 7)) few i;
+        tasks = spelt-action (p + 33) (byte-at bs (p + 8)) less i;
+      }
 
   pub rules-mean : (p n : ℕ) → ((i : ℕ) → i < n → (byte-at bs (p + 53 * i + 7) ≤ 4) × (byte-at bs (p + 53 * i + 8) ≤ 4)) → map (rule-means (drop c bs)) (map (λ k. rule-spelt bs (p + 53 * k)) (counting 0 n)) ≡ map (λ k. rule-at bs c (p + 53 * k)) (counting 0 n)
   rules-mean p n few =

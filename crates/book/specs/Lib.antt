@@ -5,3 +5,4 @@ pub mod Small
 pub mod Means
 pub mod Spelling
 pub mod Fitting
+pub mod Reads

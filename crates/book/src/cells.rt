@@ -57,7 +57,11 @@ fn code<'a>(bytes: &'a [u8], layout: &Layout, at: usize) -> &'a [u8]
     requires { ⌜ at < 2 ^ 16 ⌝ }
     ensures { λ r. ⌜ now r ≡ code-at (now (bytes .entry)) (code-from (plan (now (layout .entry)))) at ⌝ }
 {
-    piece(bytes, layout.code_from() + usize::from(two(bytes, at)), usize::from(two(bytes, at + 2)))
+    piece(
+        bytes,
+        layout.code_from() + usize::from(two(bytes, at)),
+        usize::from(two(bytes, at + 2)),
+    )
 }
 
 /// What the slots of an action read, and their targets where they are wanted, beside the members of `set`.
@@ -83,12 +87,33 @@ fn needs(bytes: &[u8], layout: &Layout, at: usize) -> u32
 {
     let local = byte(bytes, at + 6) != 1;
     let set = reads(four(bytes, at + 2), code(bytes, layout, at + 9));
-    let set = gathered(bytes, layout, true, set, at + 13, usize::from(byte(bytes, at + 7)));
-    gathered(bytes, layout, local, set, at + 33, usize::from(byte(bytes, at + 8)))
+    let set = gathered(
+        bytes,
+        layout,
+        true,
+        set,
+        at + 13,
+        usize::from(byte(bytes, at + 7)),
+    );
+    gathered(
+        bytes,
+        layout,
+        local,
+        set,
+        at + 33,
+        usize::from(byte(bytes, at + 8)),
+    )
 }
 
 /// Device `d`, if it carries the rule `i`, has the cells that the rule needs.
-fn carrier(bytes: &[u8], layout: &Layout, i: usize, carriers: u16, needed: u32, d: usize) -> Result<(), Fault>
+fn carrier(
+    bytes: &[u8],
+    layout: &Layout,
+    i: usize,
+    carriers: u16,
+    needed: u32,
+    d: usize,
+) -> Result<(), Fault>
     requires { ⌜ i < 32 ⌝ ∗ ⌜ d < 16 ⌝ }
     ensures { λ r. ⌜ r ≡ carrier-checked (now (bytes .entry)) (plan (now (layout .entry))) i carriers needed d tt ⌝ }
 {
@@ -99,7 +124,13 @@ fn carrier(bytes: &[u8], layout: &Layout, i: usize, carriers: u16, needed: u32, 
     Ok(())
 }
 
-fn carriers(bytes: &[u8], layout: &Layout, i: usize, carriers: u16, needed: u32) -> Result<(), Fault>
+fn carriers(
+    bytes: &[u8],
+    layout: &Layout,
+    i: usize,
+    carriers: u16,
+    needed: u32,
+) -> Result<(), Fault>
     requires { ⌜ i < 32 ⌝ }
     ensures { λ r. ⌜ r ≡ through (carrier-checked (now (bytes .entry)) (plan (now (layout .entry))) i carriers needed) (now (layout .entry) .devices) 0 tt ⌝ }
 {

@@ -59,7 +59,11 @@ fn first_wrong(code: &[u8], scope: Scope) -> Option<usize>
         at += usize::from(row.length);
         rest = tail;
     }
-    if rest.is_empty() && depth == 1 { None } else { Some(at) }
+    if rest.is_empty() && depth == 1 {
+        None
+    } else {
+        Some(at)
+    }
 }
 
 /// The expression that the pair at `at` names has 1 to 64 bytes, and each of its instructions may stand.
@@ -83,7 +87,13 @@ fn expression(bytes: &[u8], layout: &Layout, receiver: bool, at: usize) -> Resul
 }
 
 /// The expressions of the used slots of the action at `at`.
-fn values(bytes: &[u8], layout: &Layout, receiver: bool, at: usize, count: usize) -> Result<(), Fault>
+fn values(
+    bytes: &[u8],
+    layout: &Layout,
+    receiver: bool,
+    at: usize,
+    count: usize,
+) -> Result<(), Fault>
     requires { ⌜ at < 2 ^ 15 ⌝ ∗ ⌜ count < 256 ⌝ }
     ensures { λ r. ⌜ r ≡ values-checked (now (bytes .entry)) (plan (now (layout .entry))) receiver at count ⌝ }
 {
@@ -100,8 +110,20 @@ fn rule(bytes: &[u8], layout: &Layout, at: usize) -> Result<(), Fault>
 {
     let remote = byte(bytes, at + 6) == 1;
     expression(bytes, layout, remote, at + 9)?;
-    values(bytes, layout, false, at + 13, usize::from(byte(bytes, at + 7)))?;
-    values(bytes, layout, remote, at + 33, usize::from(byte(bytes, at + 8)))
+    values(
+        bytes,
+        layout,
+        false,
+        at + 13,
+        usize::from(byte(bytes, at + 7)),
+    )?;
+    values(
+        bytes,
+        layout,
+        remote,
+        at + 33,
+        usize::from(byte(bytes, at + 8)),
+    )
 }
 
 fn rules(bytes: &[u8], layout: &Layout) -> Result<(), Fault>

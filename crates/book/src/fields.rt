@@ -73,7 +73,14 @@ fn is_repeated(bytes: &[u8], at: usize, target: u8, k: usize) -> bool
 }
 
 /// Slot `k` of the action at `at`: used, it has a new target and its pair follows; unused, it is zero.
-fn slot(bytes: &[u8], layout: &Layout, at: usize, count: u8, k: usize, next: u16) -> Result<u16, Fault>
+fn slot(
+    bytes: &[u8],
+    layout: &Layout,
+    at: usize,
+    count: u8,
+    k: usize,
+    next: u16,
+) -> Result<u16, Fault>
     requires { ⌜ at < 2 ^ 15 ⌝ ∗ ⌜ k < 4 ⌝ }
     ensures { λ r. ⌜ r ≡ slot-checked (now (bytes .entry)) (plan (now (layout .entry))) at count k next ⌝ }
 {

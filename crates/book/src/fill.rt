@@ -51,9 +51,33 @@ pub fn fill(book: &mut Book, bytes: &[u8], layout: &Layout)
     book.clause_count = layout.clauses;
     book.code_size = usize::from(layout.room);
     fill_table(&mut book.levels, bytes, HEADER, 1, layout.resources);
-    fill_table(&mut book.cells, bytes, layout.cells_from(), 4, layout.devices);
-    fill_table(&mut book.starts, bytes, layout.starts_from(), 4, layout.cells);
-    fill_table(&mut book.rules, bytes, layout.rules_from(), RULE, layout.rules);
-    fill_table(&mut book.clauses, bytes, layout.clauses_from(), CLAUSE, layout.clauses);
+    fill_table(
+        &mut book.cells,
+        bytes,
+        layout.cells_from(),
+        4,
+        layout.devices,
+    );
+    fill_table(
+        &mut book.starts,
+        bytes,
+        layout.starts_from(),
+        4,
+        layout.cells,
+    );
+    fill_table(
+        &mut book.rules,
+        bytes,
+        layout.rules_from(),
+        RULE,
+        layout.rules,
+    );
+    fill_table(
+        &mut book.clauses,
+        bytes,
+        layout.clauses_from(),
+        CLAUSE,
+        layout.clauses,
+    );
     fill_code(&mut book.code, bytes, layout.code_from());
 }

@@ -24,6 +24,7 @@ use fault::Fault;
 
 /// The first bytes of a book file: `ABU1`.
 const FIRST: u32 = 0x4142_5531;
+
 fn first(bytes: &[u8]) -> Result<(), Fault>
     ensures { λ r. ⌜ r ≡ first-checked (now (bytes .entry)) ⌝ }
 {
@@ -79,7 +80,14 @@ fn names(bytes: &[u8], at: usize, from: usize, size: usize) -> bool
 }
 
 /// The six sections in their order, which begin where the last ended; the code ends the file.
-fn sections(bytes: &[u8], devices: usize, resources: usize, rules: usize, clauses: usize, cells: usize) -> Result<(), Fault>
+fn sections(
+    bytes: &[u8],
+    devices: usize,
+    resources: usize,
+    rules: usize,
+    clauses: usize,
+    cells: usize,
+) -> Result<(), Fault>
     requires { ⌜ devices ≤ 16 ⌝ ∗ ⌜ resources ≤ 32 ⌝ ∗ ⌜ rules ≤ 32 ⌝ ∗ ⌜ clauses ≤ 32 ⌝ ∗ ⌜ cells ≤ 512 ⌝ }
     ensures { λ r. ⌜ r ≡ sections-checked (now (bytes .entry)) (record { devices = devices; resources = resources; rules = rules; clauses = clauses; cells = cells; size = length (now (bytes .entry)) }) ⌝ }
 {

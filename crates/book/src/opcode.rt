@@ -17,21 +17,81 @@ pub struct Row {
 
 /// The opcode table: a constant, the two reads, ten operators of two operands and two of one.
 pub const TABLE: [Row; 15] = [
-    Row { opcode: 0, length: 5, pops: 0 },
-    Row { opcode: 1, length: 2, pops: 0 },
-    Row { opcode: 2, length: 2, pops: 0 },
-    Row { opcode: 3, length: 1, pops: 2 },
-    Row { opcode: 4, length: 1, pops: 2 },
-    Row { opcode: 5, length: 1, pops: 2 },
-    Row { opcode: 6, length: 1, pops: 2 },
-    Row { opcode: 7, length: 1, pops: 2 },
-    Row { opcode: 8, length: 1, pops: 2 },
-    Row { opcode: 9, length: 1, pops: 2 },
-    Row { opcode: 10, length: 1, pops: 2 },
-    Row { opcode: 11, length: 1, pops: 2 },
-    Row { opcode: 12, length: 1, pops: 2 },
-    Row { opcode: 13, length: 1, pops: 1 },
-    Row { opcode: 14, length: 1, pops: 1 },
+    Row {
+        opcode: 0,
+        length: 5,
+        pops: 0,
+    },
+    Row {
+        opcode: 1,
+        length: 2,
+        pops: 0,
+    },
+    Row {
+        opcode: 2,
+        length: 2,
+        pops: 0,
+    },
+    Row {
+        opcode: 3,
+        length: 1,
+        pops: 2,
+    },
+    Row {
+        opcode: 4,
+        length: 1,
+        pops: 2,
+    },
+    Row {
+        opcode: 5,
+        length: 1,
+        pops: 2,
+    },
+    Row {
+        opcode: 6,
+        length: 1,
+        pops: 2,
+    },
+    Row {
+        opcode: 7,
+        length: 1,
+        pops: 2,
+    },
+    Row {
+        opcode: 8,
+        length: 1,
+        pops: 2,
+    },
+    Row {
+        opcode: 9,
+        length: 1,
+        pops: 2,
+    },
+    Row {
+        opcode: 10,
+        length: 1,
+        pops: 2,
+    },
+    Row {
+        opcode: 11,
+        length: 1,
+        pops: 2,
+    },
+    Row {
+        opcode: 12,
+        length: 1,
+        pops: 2,
+    },
+    Row {
+        opcode: 13,
+        length: 1,
+        pops: 1,
+    },
+    Row {
+        opcode: 14,
+        length: 1,
+        pops: 1,
+    },
 ];
 
 /// The operators, from opcode 3 on.
@@ -86,7 +146,10 @@ pub fn front(code: &[u8]) -> Option<(Instruction, &[u8])>
     ensures { λ r. ⌜ mapped seen r ≡ taken (now (code .entry)) ⌝ }
 {
     match code {
-        [0, a, b, c, d, rest @ ..] => Some((Instruction::Constant(i32::from_be_bytes([*a, *b, *c, *d])), rest)),
+        [0, a, b, c, d, rest @ ..] => Some((
+            Instruction::Constant(i32::from_be_bytes([*a, *b, *c, *d])),
+            rest,
+        )),
         [1, r, rest @ ..] => Some((Instruction::Own(*r), rest)),
         [2, r, rest @ ..] => Some((Instruction::Receiver(*r), rest)),
         [opcode, rest @ ..] => match operator_of(*opcode) {

@@ -19,8 +19,17 @@ use super::rule::Slot;
 use super::rule::Span;
 
 const SPAN: Span = Span { from: 0, size: 0 };
-const SLOT: Slot = Slot { target: 0, value: SPAN };
-const ACTION: Action = Action { count: 0, slots: [SLOT; SLOTS] };
+
+const SLOT: Slot = Slot {
+    target: 0,
+    value: SPAN,
+};
+
+const ACTION: Action = Action {
+    count: 0,
+    slots: [SLOT; SLOTS],
+};
+
 const RULE: Rule = Rule {
     carriers: 0,
     events: 0,
@@ -29,7 +38,11 @@ const RULE: Rule = Rule {
     defaults: ACTION,
     tasks: ACTION,
 };
-const CLAUSE: Clause = Clause { device: 0, test: SPAN };
+
+const CLAUSE: Clause = Clause {
+    device: 0,
+    test: SPAN,
+};
 
 impl Draft {
     /// One device, one resource of level 0, nothing more.

@@ -74,7 +74,12 @@ fn action(bytes: &[u8], at: usize, count: u8) -> Action
 {
     Action {
         count,
-        slots: [slot(bytes, at), slot(bytes, at + 5), slot(bytes, at + 10), slot(bytes, at + 15)],
+        slots: [
+            slot(bytes, at),
+            slot(bytes, at + 5),
+            slot(bytes, at + 10),
+            slot(bytes, at + 15),
+        ],
     }
 }
 
@@ -85,7 +90,11 @@ pub impl Spelt for Rule as RuleSpelt {
         Rule {
             carriers: two(bytes, at),
             events: four(bytes, at + 2),
-            kind: if byte(bytes, at + 6) == 1 { Kind::Remote } else { Kind::Local },
+            kind: if byte(bytes, at + 6) == 1 {
+                Kind::Remote
+            } else {
+                Kind::Local
+            },
             condition: span(bytes, at + 9),
             defaults: action(bytes, at + 13, byte(bytes, at + 7)),
             tasks: action(bytes, at + 33, byte(bytes, at + 8)),

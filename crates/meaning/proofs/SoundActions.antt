@@ -31,16 +31,25 @@ use Rattle.meaning.proofs.Loops.{each, every-row}
 use Rattle.meaning.proofs.Written.{Written, code-ends, written-none, written-both, written-after}
 
 -- a part of some bytes has only bytes
-part-bytes : (bs : List ℕ) (p n : ℕ) → Bytes bs → Bytes (part bs p n)
+pub part-bytes : (bs : List ℕ) (p n : ℕ) → Bytes bs → Bytes (part bs p n)
 part-bytes bs p n fit i =
     ⊎-elim
     (λ lt. let same = getD-take n (drop p bs) i 0 lt ∙ getD-drop p bs i 0 in omega (arith, fit (p + i)))
     (λ ge. let same = getD-past (part bs p n) i 0 (omega (arith, length-take n (drop p bs))) in omega arith)
     (cases-lt i n)
 
-no-fault : (at : ℕ) (o : Option ℕ) → expression-fault at o ≡ Ok tt → o ≡ None
+pub no-fault : (at : ℕ) (o : Option ℕ) → expression-fault at o ≡ Ok tt → o ≡ None
 no-fault at None e = refl
 no-fault at (Some k) e = absurd (let z : _≡_ {A = ℕ} 0 1 = cc in omega arith)
+
+-- a used slot of an action at p passed its three checks
+pub slot-used : (bs : List ℕ) (l : Layout) (p count k at end : ℕ) → k < count → slot-checked bs l p count k at ≡ Ok end → (ltb (byte-at bs (p + 5 * k)) (l .resources) ≡ true) × (repeated bs p (byte-at bs (p + 5 * k)) k ≡ false) × (pair-checked bs l (p + 5 * k + 1) at ≡ Ok end)
+unfolding slot-checked
+slot-used bs l p count k at end lt e =
+    let t = byte-at bs (p + 5 * k) in
+    let tests = passed (ltb t (l .resources) && not (repeated bs p t k)) _ (pair-checked bs l (p + 5 * k + 1) at) end (sym (cond-true (ltb k count) _ _ (lt-ltb k count lt)) ∙ e) in
+    let parts = and-parts (ltb t (l .resources)) (not (repeated bs p t k)) (tests .0) in
+    (parts .0, not-true (repeated bs p t k) (parts .1), tests .1)
 
 -- no slot before the k-th has the target t
 not-repeated : (bs : List ℕ) (p t k : ℕ) → repeated bs p t k ≡ false → (j : ℕ) → j < k → byte-at bs (p + 5 * j) ≡ t → ⊥
@@ -130,15 +139,6 @@ module _ (bs : List ℕ) (l : Layout) (fit : Bytes bs) (fits : code-from l + roo
 
   -- the slots of an action at p, of which some are used
   module _ (p count : ℕ) where
-    -- a used slot passed its three checks
-    slot-used : (k at end : ℕ) → k < count → slot-checked bs l p count k at ≡ Ok end → (ltb (byte-at bs (p + 5 * k)) (l .resources) ≡ true) × (repeated bs p (byte-at bs (p + 5 * k)) k ≡ false) × (pair-checked bs l (p + 5 * k + 1) at ≡ Ok end)
-    unfolding slot-checked
-    slot-used k at end lt e =
-        let t = byte-at bs (p + 5 * k) in
-        let tests = passed (ltb t (l .resources) && not (repeated bs p t k)) _ (pair-checked bs l (p + 5 * k + 1) at) end (sym (cond-true (ltb k count) _ _ (lt-ltb k count lt)) ∙ e) in
-        let parts = and-parts (ltb t (l .resources)) (not (repeated bs p t k)) (tests .0) in
-        (parts .0, not-true (repeated bs p t k) (parts .1), tests .1)
-
     -- an unused one is zero
     zeros-written : (k q at end : ℕ) → q ≡ p + 5 * k + 5 → count ≤ k → slot-checked bs l p count k at ≡ Ok end → Written bs (code-from l) (p + 5 * k) q at end (0 ∷ four 0) []
     unfolding slot-checked
@@ -155,7 +155,7 @@ module _ (bs : List ℕ) (l : Layout) (fit : Bytes bs) (fits : code-from l + roo
       slot-written : (k q at end : ℕ) → q ≡ p + 5 * k + 5 → k < count → slot-checked bs l p count k at ≡ Ok end → Written bs (code-from l) (p + 5 * k) q at end (slot-bytes at (slot-of bs l p k)) (encoded-expression (slot-of bs l p k .value))
       slot-written k q at end five-on lt e =
           let i = p + 5 * k in
-          written-after (byte-fills bs i (i + 1) (byte-at bs i) refl refl) (expression-written receiver (i + 1) (values k lt) q at end (omega arith) (slot-used k at end lt e .2))
+          written-after (byte-fills bs i (i + 1) (byte-at bs i) refl refl) (expression-written receiver (i + 1) (values k lt) q at end (omega arith) (slot-used bs l p count k at end lt e .2))
 
       -- n places from slot k on, of which r are used
       slots-written : (n r k q at end : ℕ) → r ≤ n → count - k ≡ r → q ≡ p + 5 * (k + n) → through (slot-checked bs l p count) n k at ≡ Ok end → Written bs (code-from l) (p + 5 * k) q at end (slots-bytes n at (map (slot-of bs l p) (counting k r))) (slots-code (map (slot-of bs l p) (counting k r)))
@@ -184,7 +184,7 @@ module _ (bs : List ℕ) (l : Layout) (fit : Bytes bs) (fits : code-from l + roo
     unfolding action-checked
     used-each k lt =
         let one = each (slot-checked bs l p count) 4 at end checked k (omega arith) in
-        let used = slot-used p count k (one .0) (one .1) lt (one .2) in
+        let used = slot-used bs l p count k (one .0) (one .1) lt (one .2) in
         (used .0, used .1)
 
     pub action-written : (q : ℕ) → q ≡ p + 20 → Written bs (code-from l) p q at end (slots-bytes 4 at (slots-of bs l p count)) (slots-code (slots-of bs l p count))

@@ -81,18 +81,19 @@ rule-whole {bs} {c} {p} {q} {s} {t} {at} {a} {b} {end} r head defaults tasks =
     let actions = written-both defaults (subst (λ k. Written bs c s t b end (slots-bytes 4 k (r .tasks)) (slots-code (r .tasks))) (code-ends defaults) tasks) in
     written-both head (subst (λ k. Written bs c q t a end (slots-bytes 4 k (r .defaults) ++ slots-bytes 4 (k + length code) (r .tasks)) (code ++ slots-code (r .tasks))) (code-ends head) actions)
 
+-- what the head of a rule at p was checked for
+pub head-right : (bs : List ℕ) (l : Layout) (p : ℕ) → head-checked bs l p ≡ Ok tt → (some-under (two-at bs p) (l .devices) ≡ true) × (some-under (four-at bs (p + 2)) (l .resources) ≡ true) × (byte-at bs (p + 6) < 2) × (byte-at bs (p + 7) ≤ 4) × (byte-at bs (p + 8) ≤ 4)
+unfolding head-checked
+head-right bs l p e =
+    let carriers = passed (some-under (two-at bs p) (l .devices)) _ _ tt e in
+    let events = passed (some-under (four-at bs (p + 2)) (l .resources)) _ _ tt (carriers .1) in
+    let kind = passed (ltb (byte-at bs (p + 6)) 2) _ _ tt (events .1) in
+    let defaults = passed (leb (byte-at bs (p + 7)) 4) _ _ tt (kind .1) in
+    let tasks = passed (leb (byte-at bs (p + 8)) 4) _ _ tt (defaults .1) in
+    (carriers .0, events .0, ltb-true _ 2 (kind .0), leb-true _ 4 (defaults .0), leb-true _ 4 (tasks .0))
+
 module _ (bs : List ℕ) (l : Layout) (fit : Bytes bs) (fits : code-from l + room l ≤ length bs) where
   module _ (p : ℕ) where
-    head-right : head-checked bs l p ≡ Ok tt → (some-under (two-at bs p) (l .devices) ≡ true) × (some-under (four-at bs (p + 2)) (l .resources) ≡ true) × (byte-at bs (p + 6) < 2) × (byte-at bs (p + 7) ≤ 4) × (byte-at bs (p + 8) ≤ 4)
-    unfolding head-checked
-    head-right e =
-        let carriers = passed (some-under (two-at bs p) (l .devices)) _ _ tt e in
-        let events = passed (some-under (four-at bs (p + 2)) (l .resources)) _ _ tt (carriers .1) in
-        let kind = passed (ltb (byte-at bs (p + 6)) 2) _ _ tt (events .1) in
-        let defaults = passed (leb (byte-at bs (p + 7)) 4) _ _ tt (kind .1) in
-        let tasks = passed (leb (byte-at bs (p + 8)) 4) _ _ tt (defaults .1) in
-        (carriers .0, events .0, ltb-true _ 2 (kind .0), leb-true _ 4 (defaults .0), leb-true _ 4 (tasks .0))
-
     early-fills : byte-at bs (p + 6) < 2 → Fills bs p (p + 9) (early-bytes (rule-in bs l p))
     unfolding rule-at
     early-fills kind =
@@ -115,7 +116,7 @@ module _ (bs : List ℕ) (l : Layout) (fit : Bytes bs) (fits : code-from l + roo
         let actions = both (action-checked bs l (p + 13) n (condition .0)) _ end (condition .2) in
         let test = both (expression-checked bs l remote (p + 9)) _ tt f in
         let values = both (values-checked bs l false (p + 13) n) _ tt (test .2) in
-        let head = head-right (top .1) in (
+        let head = head-right bs l p (top .1) in (
           rule-whole (rule-in bs l p)
               (written-after (early-fills (head .2)) (expression-written bs l fit fits remote (p + 9) (test .1) (p + 13) at (condition .0) (omega arith) (condition .1)))
               (action-written bs l fit fits false (p + 13) n (condition .0) (actions .0) (head .3) (actions .1) (values .1) (p + 33) (omega arith))

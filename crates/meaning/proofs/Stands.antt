@@ -27,7 +27,7 @@ joins bs p q xs ys e front back k h =
     ⊎-elim
     (λ lt. front k lt ∙ sym (getD-append-left xs ys 0 k lt))
     (λ ge. let same : q + (k - length xs) ≡ p + k = omega arith in
-        ap (λ j. getD bs j 0) (sym same) ∙ back (k - length xs) (omega (arith, length-append xs ys)) ∙ sym (getD-append-right xs ys (length xs) k 0 refl ge))
+    ap (λ j. getD bs j 0) (sym same) ∙ back (k - length xs) (omega (arith, length-append xs ys)) ∙ sym (getD-append-right xs ys (length xs) k 0 refl ge))
     (cases-lt k (length xs))
 
 pub left : (bs : List ℕ) (p : ℕ) (xs ys : List ℕ) → Stands bs p (xs ++ ys) → Stands bs p xs

@@ -130,8 +130,8 @@ wrong-after s skip at depth [] = cond (eqb depth 1) None (Some at)
 wrong-after s (suc k) at depth (b ∷ bs) = wrong-after s k at depth bs
 wrong-after s zero at depth (b ∷ bs) =
     elim (front (b ∷ bs)) [
-    None ↦ Some at
-    | Some f ↦ cond (may-stand s depth (f .instruction)) (wrong-after s (f .size - 1) (at + f .size) (deepened depth (f .instruction)) bs) (Some at)
+      | None ↦ Some at
+      | Some f ↦ cond (may-stand s depth (f .instruction)) (wrong-after s (f .size - 1) (at + f .size) (deepened depth (f .instruction)) bs) (Some at)
     ]
 
 abbrev pub wrong : Scope → List ℕ → Option ℕ

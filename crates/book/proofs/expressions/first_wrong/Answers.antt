@@ -42,7 +42,7 @@ returns-then-not-names c =
     let s = scoped (c .args .scope) in
     let row = c .row-of-row .ensures in
     let falls : may-stand s (c .loop-instruction .depth) i ≡ false = elim (c .then-not-names .came) [
-      then-not-names·by·then-not-names w ↦ and-left _ _ (sym (c .names .ensures) ∙ w .if-not-names .taken)
+      | then-not-names·by·then-not-names w ↦ and-left _ _ (sym (c .names .ensures) ∙ w .if-not-names .taken)
       | then-not-names·by·else-not-names·then-depth-row w ↦ and-right _ _ (and-left _ _ (lt-leb (pops i) (c .loop-instruction .depth) (omega (arith, w .if-depth-row .taken))))
       | then-not-names·by·else-not-names·else-depth-row·then-depth-row-gt-DEPTH w ↦ and-right (named s i) _ (and-right (leb (pops i) (c .loop-instruction .depth)) _ (lt-leb (deepened (c .loop-instruction .depth) i) 8 (omega (arith, w .if-depth-row-gt-DEPTH .taken))))
     ] in
@@ -55,7 +55,7 @@ returns-then-depth-eq1 c =
 pub returns-else-is-empty : need.returns-else-is-empty
 returns-else-is-empty c =
     let ended : wrong-after (scoped (c .args .scope)) 0 (c .loop-instruction .at) (c .loop-instruction .depth) (c .loop-instruction .rest .now) ≡ Some (c .loop-instruction .at) = elim (c .else-is-empty .came) [
-      else-is-empty·by·then-is-empty·else-depth-eq1 w ↦ at-end _ _ _ _ (eqb-true _ 0 (sym (w .if-is-empty .ensures tt))) ∙ cond-false _ _ _ (ne-eqb _ 1 (w .if-depth-eq1 .left))
+      | else-is-empty·by·then-is-empty·else-depth-eq1 w ↦ at-end _ _ _ _ (eqb-true _ 0 (sym (w .if-is-empty .ensures tt))) ∙ cond-false _ _ _ (ne-eqb _ 1 (w .if-depth-eq1 .left))
       | else-is-empty·by·else-is-empty w ↦ stuck _ _ _ _ (c .in-rest .ensures tt) (omega (arith, eqb-false _ 0 (sym (w .if-is-empty .ensures tt))))
     ] in
     record { value = sym ended ∙ c .loop-instruction .inv .0; bound = omega arith }
