@@ -15,3 +15,4 @@ pub mod CompleteActions
 pub mod CompleteRules
 pub mod CompleteFile
 pub mod Complete
+pub mod Masks

@@ -9,3 +9,4 @@ pub mod Layout
 pub mod Parsed
 pub mod Reading
 pub mod Exact
+pub mod Levels
