@@ -16,3 +16,4 @@ pub mod CompleteRules
 pub mod CompleteFile
 pub mod Complete
 pub mod Masks
+pub mod Listed

@@ -10,3 +10,5 @@ pub mod Parsed
 pub mod Reading
 pub mod Exact
 pub mod Levels
+pub mod Flow
+pub mod FlowList
