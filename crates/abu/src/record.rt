@@ -61,11 +61,7 @@ fn cells(heap: Global, mask: u32, starts: &[i32]) -> Result<String, AllocError> 
 }
 
 fn expression(heap: Global, book: &Book, span: Span) -> Result<String, AllocError> {
-    let from = usize::from(span.from);
-    match book.code.get(from..from + usize::from(span.size)) {
-        Some(code) => infix(heap, code),
-        None => String::from_str(heap, "?"),
-    }
+    infix(heap, book.code_of(span))
 }
 
 /// The assignments of an action, as `r2 := 1, r3 := 0`, with a prefix before each target.
@@ -76,7 +72,7 @@ fn assignments(
     prefix: &str,
 ) -> Result<String, AllocError> {
     let mut all = Vec::new(heap);
-    for slot in action.slots.iter().take(usize::from(action.count)) {
+    for slot in action.used() {
         let target = slot.target;
         let value = expression(heap, book, slot.value)?;
         all.push(format!(heap, "{prefix}r{target} := {value}")?)?;
@@ -110,7 +106,7 @@ fn task(heap: Global, book: &Book, rule: &Rule) -> Result<String, AllocError> {
 }
 
 fn resource_lines(heap: Global, book: &Book, lines: &mut Vec<String>) -> Result<(), AllocError> {
-    for (r, level) in book.levels.iter().take(book.resource_count).enumerate() {
+    for (r, level) in book.used_levels().iter().enumerate() {
         lines.push(format!(heap, "resource r{r}: level {level}")?)?;
     }
     Ok(())
@@ -118,7 +114,7 @@ fn resource_lines(heap: Global, book: &Book, lines: &mut Vec<String>) -> Result<
 
 fn device_lines(heap: Global, book: &Book, lines: &mut Vec<String>) -> Result<(), AllocError> {
     let mut starts: &[i32] = &book.starts;
-    for (d, mask) in book.cells.iter().take(book.device_count).enumerate() {
+    for (d, mask) in book.used_cells().iter().enumerate() {
         let cells = cells(heap, *mask, starts)?;
         lines.push(format!(heap, "device {d}: {cells}")?)?;
         if let Some(later) = starts.get(mask.count_ones() as usize..) {
@@ -129,7 +125,7 @@ fn device_lines(heap: Global, book: &Book, lines: &mut Vec<String>) -> Result<()
 }
 
 fn rule_lines(heap: Global, book: &Book, lines: &mut Vec<String>) -> Result<(), AllocError> {
-    for (i, rule) in book.rules.iter().take(book.rule_count).enumerate() {
+    for (i, rule) in book.used_rules().iter().enumerate() {
         let heading = heading(heap, rule)?;
         lines.push(format!(heap, "rule {i}: {heading}")?)?;
         if rule.defaults.count > 0 {
@@ -143,7 +139,7 @@ fn rule_lines(heap: Global, book: &Book, lines: &mut Vec<String>) -> Result<(), 
 }
 
 fn clause_lines(heap: Global, book: &Book, lines: &mut Vec<String>) -> Result<(), AllocError> {
-    for (i, clause) in book.clauses.iter().take(book.clause_count).enumerate() {
+    for (i, clause) in book.used_clauses().iter().enumerate() {
         let Clause { device, test } = *clause;
         let test = expression(heap, book, test)?;
         lines.push(format!(heap, "clause {i}: device {device}; {test}")?)?;

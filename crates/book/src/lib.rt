@@ -17,6 +17,7 @@ mod rule;
 mod scope;
 mod smallest;
 mod spelling;
+mod used;
 
 pub use book::Book;
 pub use draft::Draft;
