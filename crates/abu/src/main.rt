@@ -3,6 +3,7 @@
 mod answer;
 mod command;
 mod infix;
+mod leaks;
 mod nearest;
 mod record;
 

@@ -14,6 +14,7 @@ mod sections;
 mod tally;
 mod truncations;
 mod vectors;
+mod verdicts;
 
 use counts::Count;
 use std::error::AnyError;
@@ -24,7 +25,9 @@ use tally::TallyDisplay;
 /// Files with known answers.
 fn known_files(rt: &LibcRuntime, all: &mut Tally) -> io::Result<()> {
     all.join(rt, vectors::accepted(rt)?)?;
-    all.join(rt, vectors::damaged(rt)?)
+    all.join(rt, vectors::damaged(rt)?)?;
+    all.join(rt, verdicts::verdicts(rt)?)?;
+    all.join(rt, verdicts::buffers(rt)?)
 }
 
 /// Books at each limit and past it.

@@ -28,17 +28,11 @@ use Rattle.meaning.specs.WellFormed.{every, right-rule, right-clause, carried,
 use Rattle.meaning.specs.Layout.{Layout, cells-from, starts-from, rules-from, clauses-from, code-from, room}
 use Rattle.meaning.specs.Parsed.{start-at, rule-at, clause-at, spelt}
 use Rattle.meaning.specs.Reading.{first-checked, counts-checked, section-right, sections-checked, mask-checked, fields-checked, rule-checked, clause-checked, expression-checked, rule-expressions-checked, expressions-checked, carrier-checked, rule-cells-checked, clause-cells-checked, cells-checked, checked, Verdict, reading}
+use Rattle.meaning.proofs.Loops.{every-at}
 use Rattle.meaning.proofs.Stands.{Stands, itself, left, right, two-read}
 use Rattle.meaning.proofs.Placed.{granted, bound, Each, inside, each-both, each-every, each-through, each-passes, each-read}
 use Rattle.meaning.proofs.CompleteRules.{carriers-read, rule-passes, rule-expressions-pass, rule-read, device-read, clause-passes, test-passes, test-read, clause-read}
 use Rattle.meaning.proofs.CompleteFile.{number-read, counts, tests-from, clause-code, rule-place, clause-place, RuleHeld, ClauseHeld, levels-stand, cells-stand, starts-stand, file-long, room-is, layout-is, rules-held, clauses-held}
-
--- a test that holds of each element holds of the one at k
-every-at : {X : Type 0} (q : X → Bool) (xs : List X) (k : ℕ) (d : X) → every q xs ≡ true → k < length xs → q (getD xs k d) ≡ true
-unfolding every
-every-at q [] k d all h = absurd (omega arith)
-every-at q (x ∷ xs) zero d all h = and-parts (q x) (every q xs) all .0
-every-at q (x ∷ xs) (suc k) d all h = every-at q xs k d (and-parts (q x) (every q xs) all .1) (omega arith)
 
 -- checks that each pass
 all-pass : (f : ℕ → Unit {0} → Verdict) (n i : ℕ) → ((k : ℕ) → k < i + n → f k tt ≡ Ok tt) → through f n i tt ≡ Ok tt

@@ -19,11 +19,6 @@ use Rattle.meaning.specs.Flow.{Flow, Sound, by-rule, by-clause, forbidden}
 use Rattle.meaning.specs.FlowList.{flow, to-target, of-kind, of-part, of-rule, of-clause, candidates, flow-list, before, Ascending, Lists}
 use Rattle.meaning.specs.Levels.{Order}
 
--- a filter of blocks filters each block
-pub kept-joined : {X Y : Type 0} (p : Y → Bool) (f : X → List Y) (xs : List X) → kept-by p (joined f xs) ≡ joined (λ x. kept-by p (f x)) xs
-kept-joined p f [] = refl
-kept-joined p f (x ∷ xs) = kept-by-append p (f x) (joined f xs) ∙ ap (λ l. kept-by p (f x) ++ l) (kept-joined p f xs)
-
 -- each flow comes before all later ones
 abbrev Sorted : List Flow → Type 0
 Sorted [] = Unit {0}

@@ -8,7 +8,8 @@ use native.Mathlib.Omega.{arith}
 use Rattle.std.specs.Iters.{counting}
 use Rattle.std.specs.declared.result.Result.{Result}
 use Rattle.std.specs.declared.result.Result.the-variants.{Ok}
-use Rattle.std.proofs.shelf.Tests.{and-from, cases-eq}
+use lib.ListN.{length, getD}
+use Rattle.std.proofs.shelf.Tests.{and-parts, and-from, cases-eq}
 use Rattle.fault.specs.declared.fault.Fault.{Fault}
 use Rattle.meaning.specs.Checks.{through}
 use Rattle.meaning.specs.WellFormed.{every}
@@ -45,3 +46,10 @@ every-map p g (x ∷ xs) = ap (λ r. p (g x) && r) (every-map p g xs)
 -- a test that holds of each item of a row
 pub every-row : {X : Type 0} (p : X → Bool) (g : ℕ → X) (n : ℕ) → ((i : ℕ) → i < n → p (g i) ≡ true) → every p (map g (counting 0 n)) ≡ true
 every-row p g n h = every-map p g (counting 0 n) ∙ every-below (λ i. p (g i)) n h
+
+-- a test that holds of each element holds of the one at k
+pub every-at : {X : Type 0} (q : X → Bool) (xs : List X) (k : ℕ) (d : X) → every q xs ≡ true → k < length xs → q (getD xs k d) ≡ true
+unfolding every
+every-at q [] k d all h = absurd (omega arith)
+every-at q (x ∷ xs) zero d all h = and-parts (q x) (every q xs) all .0
+every-at q (x ∷ xs) (suc k) d all h = every-at q xs k d (and-parts (q x) (every q xs) all .1) (omega arith)
