@@ -3,20 +3,20 @@ ghost use mathlib.Core.Path.{_≡_};
 ghost use Prim.Native.Nat.{_^_, _<_};
 ghost use Rattle.meaning.specs.Bytes.{byte-at, two-at, four-at, part};
 
-pub fn byte(bytes: &[u8], at: usize) -> u8
+pub(crate) fn byte(bytes: &[u8], at: usize) -> u8
     ensures { λ r. ⌜ r ≡ byte-at (now (bytes .entry)) at ⌝ }
 {
     if at < bytes.len() { bytes[at] } else { 0 }
 }
 
-pub fn two(bytes: &[u8], at: usize) -> u16
+pub(crate) fn two(bytes: &[u8], at: usize) -> u16
     requires { ⌜ at < 2 ^ 32 ⌝ }
     ensures { λ r. ⌜ r ≡ two-at (now (bytes .entry)) at ⌝ }
 {
     u16::from_be_bytes([byte(bytes, at), byte(bytes, at + 1)])
 }
 
-pub fn four(bytes: &[u8], at: usize) -> u32
+pub(crate) fn four(bytes: &[u8], at: usize) -> u32
     requires { ⌜ at < 2 ^ 32 ⌝ }
     ensures { λ r. ⌜ r ≡ four-at (now (bytes .entry)) at ⌝ }
 {
@@ -29,7 +29,7 @@ pub fn four(bytes: &[u8], at: usize) -> u32
 }
 
 /// The `count` bytes from a place on, or those of them that there are.
-pub fn piece(bytes: &[u8], from: usize, count: usize) -> &[u8]
+pub(crate) fn piece(bytes: &[u8], from: usize, count: usize) -> &[u8]
     ensures { λ r. ⌜ now r ≡ part (now (bytes .entry)) from count ⌝ }
 {
     let from = from.min(bytes.len());

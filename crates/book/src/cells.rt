@@ -185,7 +185,7 @@ fn clauses(bytes: &[u8], layout: &Layout) -> Result<(), Fault>
 }
 
 /// The cells that rules need, then those that clauses read.
-pub fn cells(bytes: &[u8], layout: &Layout) -> Result<(), Fault>
+pub(crate) fn cells(bytes: &[u8], layout: &Layout) -> Result<(), Fault>
     requires { ⌜ fields-checked (now bytes) (plan (now layout)) ≡ Ok tt ⌝ ∗ ⌜ expressions-checked (now bytes) (plan (now layout)) ≡ Ok tt ⌝ }
     ensures { λ r. ⌜ r ≡ cells-checked (now (bytes .entry)) (plan (now (layout .entry))) ⌝ }
 {

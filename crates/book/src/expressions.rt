@@ -145,7 +145,7 @@ fn clauses(bytes: &[u8], layout: &Layout) -> Result<(), Fault>
 }
 
 /// Every expression of the book.
-pub fn expressions(bytes: &[u8], layout: &Layout) -> Result<(), Fault>
+pub(crate) fn expressions(bytes: &[u8], layout: &Layout) -> Result<(), Fault>
     ensures { λ r. ⌜ r ≡ expressions-checked (now (bytes .entry)) (plan (now (layout .entry))) ⌝ }
 {
     rules(bytes, layout)?;

@@ -177,7 +177,7 @@ fn clauses(bytes: &[u8], layout: &Layout, next: u16) -> Result<u16, Fault>
 }
 
 /// Every field of the sections, and that no code is left over.
-pub fn fields(bytes: &[u8], layout: &Layout) -> Result<(), Fault>
+pub(crate) fn fields(bytes: &[u8], layout: &Layout) -> Result<(), Fault>
     ensures { λ r. ⌜ r ≡ fields-checked (now (bytes .entry)) (plan (now (layout .entry))) ⌝ }
 {
     masks(bytes, layout)?;

@@ -40,7 +40,7 @@ fn fill_code(table: &mut [u8], bytes: &[u8], from: usize)
 }
 
 /// Fills a book from a file in a layout.
-pub fn fill(book: &mut Book, bytes: &[u8], layout: &Layout)
+pub(crate) fn fill(book: &mut Book, bytes: &[u8], layout: &Layout)
     requires { ⌜ Fitting (now bytes) (plan (now layout)) ⌝ }
     ensures { λ _. ⌜ means (now (book .exit)) ≡ spelt (now (bytes .entry)) (plan (now (layout .entry))) ⌝ }
 {

@@ -115,7 +115,7 @@ fn sections(
 }
 
 /// The layout of a file whose header is right.
-pub fn header(bytes: &[u8]) -> Result<Layout, Fault>
+pub(crate) fn header(bytes: &[u8]) -> Result<Layout, Fault>
     ensures { λ r. ⌜ Cases r (λ l. Framed (now (bytes .entry)) l) (λ f. checked (now (bytes .entry)) (layout (now (bytes .entry))) ≡ Err f) ⌝ }
 {
     first(bytes)?;

@@ -6,7 +6,7 @@ use fault::BookCause;
 use fault::Fault;
 use fault::Layer;
 
-pub fn refusal(cause: BookCause, a: usize, b: usize) -> Fault
+pub(crate) fn refusal(cause: BookCause, a: usize, b: usize) -> Fault
     requires { ⌜ a < 2 ^ 32 ⌝ ∗ ⌜ b < 2 ^ 32 ⌝ }
     ensures { λ r. ⌜ r ≡ book-fault cause a b ⌝ }
 {

@@ -29,7 +29,7 @@ struct Case<'a> {
 }
 
 /// The case that a line spells.
-fn case(line: &str) -> Option<Case<'_>> {
+fn spelt(line: &str) -> Option<Case<'_>> {
     let (book, rest) = line.split_once(' ')?;
     let (order, rest) = rest.split_once(' ')?;
     let (size, rest) = rest.split_once(' ')?;
@@ -108,7 +108,7 @@ pub fn verdicts(rt: &LibcRuntime) -> io::Result<Tally> {
     let mut tally = Tally::new("verdicts");
     let list = fs::read_to_string(rt, "verdicts.txt")?;
     for line in list.as_str().lines() {
-        let Some(case) = case(line) else {
+        let Some(case) = spelt(line) else {
             continue;
         };
         let name = case.book;

@@ -88,7 +88,7 @@ fn watched(book: &Book, rule: &Rule, part: Part, set: u32) -> u32
 }
 
 /// The sets of a part.
-pub fn sets_of(book: &Book, rule: &Rule, part: Part) -> PartSets
+pub(crate) fn sets_of(book: &Book, rule: &Rule, part: Part) -> PartSets
     requires { ⌜ WellFormed (means (now book)) ⌝ ∗ ⌜ RightRule (now book) (now rule) ⌝ }
     ensures { λ r. ⌜ SetsOf (means (now (book .entry))) (rule-means (code-of (now (book .entry))) (now (rule .entry))) (parts.number part) r ⌝ }
 {

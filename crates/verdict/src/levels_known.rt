@@ -27,7 +27,7 @@ fn level_known(book: &Book, scale: &Scale, resource: usize) -> Result<(), Fault>
 }
 
 /// Each level of the book is one of the order.
-pub fn levels_known(book: &Book, scale: &Scale) -> Result<(), Fault>
+pub(crate) fn levels_known(book: &Book, scale: &Scale) -> Result<(), Fault>
     requires { ⌜ length (means (now book) .levels) ≤ 32 ⌝ }
     ensures { λ r. ⌜ r ≡ levels-checked (scaled (now (scale .entry))) (means (now (book .entry))) ⌝ }
 {

@@ -159,7 +159,7 @@ fn put_clauses(book: &Book, scale: &Scale, out: &mut [u8], at: usize) -> usize
 }
 
 /// Puts the whole list, and answers its length.
-pub fn put_flows(book: &Book, scale: &Scale, out: &mut [u8]) -> usize
+pub(crate) fn put_flows(book: &Book, scale: &Scale, out: &mut [u8]) -> usize
     requires { ⌜ WellFormed (means (now book)) ⌝ }
     ensures put { λ r. ⌜ Put (now (out .entry)) (now (out .exit)) 0 r (flow-list (scaled (now (scale .entry))) (means (now (book .entry)))) ⌝ }
     ensures bound { λ r. ⌜ r < 2 ^ 22 ⌝ }

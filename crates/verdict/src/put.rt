@@ -59,7 +59,7 @@ fn leaks(scale: &Scale, levels: &[u8], sources: u32, target: u8, source: usize) 
 }
 
 /// Puts the flows to one target from a set of sources, where the order bars them.
-pub fn put_target(
+pub(crate) fn put_target(
     book: &Book,
     scale: &Scale,
     out: &mut [u8],
