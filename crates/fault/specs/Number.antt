@@ -1,14 +1,9 @@
 -- The number of each cause, which also says the layer it belongs to, and the text of a fault. Assumes nothing.
 use Rattle.std.specs.Prelude.{ℕ, List, ◌++◌, codes, decimal}
-use Rattle.fault.specs.declared.fault.BookCause.{BookCause}
 use Rattle.fault.specs.declared.fault.BookCause.TheVariants.{Frame, Count, Field, Expression, Cell}
-use Rattle.fault.specs.declared.fault.OrderCause.{OrderCause}
 use Rattle.fault.specs.declared.fault.OrderCause.TheVariants.{Level, Flow}
-use Rattle.fault.specs.declared.fault.CallCause.{CallCause}
 use Rattle.fault.specs.declared.fault.CallCause.TheVariants.{Argument, Buffer}
-use Rattle.fault.specs.declared.fault.HostCause.{HostCause}
 use Rattle.fault.specs.declared.fault.HostCause.TheVariants.{Cells, Absent}
-use Rattle.fault.specs.declared.fault.EnsembleCause.{EnsembleCause}
 use Rattle.fault.specs.declared.fault.EnsembleCause.TheVariants.{Start, Input, Empty, Taken, Ticket}
 use Rattle.fault.specs.declared.fault.Layer.{Layer}
 use Rattle.fault.specs.declared.fault.Layer.TheVariants.{Book, Order, Call, Host, Ensemble}

@@ -1,4 +1,5 @@
 //! Faults: what was refused, in which layer, and where.
+#![tactic(auto)]
 
 mod fault;
 mod sentence;

@@ -1,6 +1,6 @@
 -- The file of a well-formed book passes every check and spells the book, since each part of it stands where reading looks for it.
 -- Assumes nothing.
-use Rattle.std.proofs.Common.{◌≡◌, ℕ, zero, suc, ◌+◌, ◌*◌, ◌<◌, ◌≤◌, Bool, true, false, not, ◌||◌, ltb, List, [], ◌∷◌, length, get_or, take, drop, pos, Ok, sym, refl, ap, ◌∙◌, subst, zero-add, arith, w32, SFits, to_z, of_z}
+use Rattle.std.proofs.Common.{◌≡◌, ℕ, zero, suc, ◌+◌, ◌*◌, ◌<◌, ◌≤◌, Bool, true, false, not, ◌||◌, ltb, List, length, get_or, take, drop, pos, Ok, sym, refl, ap, ◌∙◌, subst, zero-add, arith, w32, SFits, to_z, of_z}
 use lib.Signed.{mag}
 use Rattle.std.specs.List.{range_with_len}
 use Rattle.std.proofs.lemmas.List.FromFn.{length-range_with_len, get_or-range_with_len, fill_by_all}
@@ -13,7 +13,7 @@ use Rattle.meaning.specs.Checks.{bind, through}
 use Rattle.meaning.specs.Expression.{reads}
 use Rattle.meaning.specs.Book.{Rule, Clause, Book, devices, resources, cells_of, needs}
 use Rattle.meaning.specs.File.{count_cells, pair, rule_code, rules_code, clauses_code, book_code, encoded}
-use Rattle.meaning.specs.WellFormed.{every, right_rule, right_clause, carried, readable, WellFormed}
+use Rattle.meaning.specs.WellFormed.{right_rule, right_clause, carried, readable, WellFormed}
 use Rattle.meaning.specs.Layout.{Layout, cells_from, starts_from, rules_from, clauses_from, code_from, room}
 use Rattle.meaning.specs.Parsed.{start_at, rule_at, clause_at, spelt}
 use Rattle.meaning.specs.Reading.{first_checked, counts_checked, section_right, sections_checked, mask_checked, fields_checked, rule_checked, clause_checked, expression_checked, rule_expressions_checked, expressions_checked, carrier_checked, rule_cells_checked, clause_cells_checked, cells_checked, checked, Verdict, reading}

@@ -1,6 +1,6 @@
 -- Laws of masks as sets. A bit of the result depends on the same bit of the operands, so each law goes bit by bit. Assumes nothing.
-use Rattle.std.proofs.Common.{◌≡◌, ℕ, zero, suc, ◌+◌, ◌*◌, ◌/◌, ◌%◌, ◌<◌, ◌≤◌, min, sym, refl, ap, ◌∙◌, arith}
-use lib.Bits.{bit_and, and_step, and_comm, and_zero_l, and_zero_r}
+use Rattle.std.proofs.Common.{◌≡◌, ℕ, zero, suc, ◌+◌, ◌*◌, ◌/◌, ◌%◌, ◌≤◌, min, sym, ap, ◌∙◌, arith}
+use lib.Bits.{bit_and, and_step, and_comm, and_zero_l}
 
 and_half : (a b : ℕ) → bit_and a b / 2 ≡ bit_and (a / 2) (b / 2)
 and_half a b = omega (arith, and_step a b)

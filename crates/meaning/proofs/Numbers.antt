@@ -1,5 +1,5 @@
 -- A number is its bytes, and bytes are the number that they make. Assumes nothing.
-use Rattle.std.proofs.Common.{◌≡◌, ℕ, ◌+◌, ◌*◌, ◌/◌, ◌%◌, ◌^◌, ◌<◌, List, [], ◌∷◌, get_or, sym, refl, ap, ◌∙◌, arith}
+use Rattle.std.proofs.Common.{◌≡◌, ℕ, ◌+◌, ◌*◌, ◌/◌, ◌%◌, ◌<◌, List, [], ◌∷◌, get_or, arith}
 use Rattle.meaning.specs.Bytes.{two_at, four_at, two, four, Bytes}
 
 pub two_below : (bs : List ℕ) (p : ℕ) → Bytes bs → two_at bs p < 65536

@@ -12,7 +12,7 @@ use Rattle.meaning.specs.Layout.{Layout, ones_at, cells_from, starts_from, rules
 use Rattle.meaning.specs.Parsed.{start_at}
 use Rattle.meaning.specs.Reading.{first_checked, counts_checked, section_right, sections_checked}
 use Rattle.meaning.proofs.Numbers.{four_below}
-use Rattle.meaning.proofs.Rows.{passed, both}
+use Rattle.meaning.proofs.Rows.{passed}
 use Rattle.meaning.proofs.Fills.{Fills, fills_both, byte_fills, four_fills, pair_fills, row_fills}
 
 -- a row of items of four bytes

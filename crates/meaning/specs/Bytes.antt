@@ -1,5 +1,5 @@
 -- Numbers in a file: each is written with its high byte first. A place past the end reads as 0. Assumes nothing.
-use Rattle.std.specs.Prelude.{ℕ, ◌+◌, ◌*◌, ◌/◌, ◌%◌, ◌<◌, List, [], ◌∷◌, ◌++◌, length, take, drop, slice_index}
+use Rattle.std.specs.Prelude.{ℕ, ◌+◌, ◌*◌, ◌/◌, ◌%◌, ◌<◌, List, [], ◌∷◌, take, drop, slice_index}
 
 abbrev pub byte_at : List ℕ → ℕ → ℕ
 byte_at bs p = slice_index bs p

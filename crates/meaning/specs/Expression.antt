@@ -1,6 +1,5 @@
 -- Expressions: instructions in postfix order, their bytes, their value, what they read, and where their bytes are wrong. Assumes nothing.
-use Rattle.std.specs.Prelude.{ℕ, zero, suc, ◌+◌, ◌-◌, ◌^◌, Bool, true, false, cond, not, ◌&&◌, ◌||◌, List, [], ◌∷◌, ◌++◌, length, drop, ℤ, pos, ◌+ℤ◌, ◌-ℤ◌, ◌*ℤ◌, Some, None, Option, ◌==◌, int_div, int_le, int_lt, nat_le, nat_lt, slice_index, slice_index_or, unsigned_abs}
-use Rattle.std.specs.Int.Bits.{bit_or}
+use Rattle.std.specs.Prelude.{ℕ, zero, suc, ◌+◌, ◌-◌, Bool, true, cond, not, ◌&&◌, ◌||◌, List, [], ◌∷◌, ◌++◌, length, drop, ℤ, pos, ◌+ℤ◌, ◌-ℤ◌, ◌*ℤ◌, Some, None, Option, ◌==◌, int_div, int_le, int_lt, nat_le, nat_lt, slice_index, slice_index_or, unsigned_abs}
 use Rattle.std.specs.Int.Signed.{mag}
 use Rattle.std.proofs.Common.{to_z, of_z}
 use Rattle.std.specs.Int.{saturate_to_bits, w32}

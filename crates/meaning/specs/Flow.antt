@@ -1,6 +1,5 @@
 -- Information flows of a book, by their five kinds, and which of them an order forbids. Assumes nothing.
-use Rattle.std.specs.Prelude.{◌≡◌, ℕ, ◌+◌, ◌-◌, ◌^◌, Bool, true, false, cond, not, ◌&&◌, ◌||◌, ltb, List, [], ◌∷◌, ◌++◌, map, length, filter, ◌==◌, bit_and, nat_le, nat_lt, slice_index, slice_index_or}
-use Rattle.std.specs.List.{range_with_len, flat_map}
+use Rattle.std.specs.Prelude.{◌≡◌, ℕ, ◌+◌, ◌-◌, ◌^◌, Bool, false, cond, not, ◌&&◌, ◌||◌, ltb, List, [], ◌∷◌, length, ◌==◌, bit_and, nat_le, nat_lt, slice_index, slice_index_or}
 use Rattle.meaning.specs.Sets.{has, with_member, within}
 use Rattle.meaning.specs.Expression.{Expression, reads, asks}
 use Rattle.meaning.specs.Book.{Slot, Rule, Clause, Book, resources, cells_of}

@@ -1,5 +1,5 @@
 -- The list of forbidden flows: ascending by rule, part, kind, target and source. Assumes nothing.
-use Rattle.std.specs.Prelude.{◌≡◌, ℕ, ◌+◌, ◌≤◌, Bool, true, false, ◌&&◌, ◌||◌, List, [], ◌∷◌, ◌++◌, map, length, filter, ◌==◌, nat_lt}
+use Rattle.std.specs.Prelude.{◌≡◌, ℕ, ◌+◌, ◌≤◌, Bool, true, ◌&&◌, ◌||◌, List, [], ◌∷◌, ◌++◌, map, length, filter, ◌==◌, nat_lt}
 use Rattle.std.specs.List.{range_with_len, flat_map, ContainsAt as Has}
 use Rattle.meaning.specs.Book.{Book, resources}
 use Rattle.meaning.specs.Flow.{Flow, forbidden, Sound}

@@ -1,11 +1,11 @@
 -- Reading a file: the checks in their order, each with its fault, and the book where none fails. Assumes nothing.
-use Rattle.std.specs.Prelude.{ℕ, zero, suc, ◌+◌, ◌*◌, Bool, true, false, cond, not, ◌&&◌, ◌||◌, List, [], ◌∷◌, length, Some, None, Ok, Err, Option, Result, ◌==◌, nat_le, nat_lt}
+use Rattle.std.specs.Prelude.{ℕ, zero, suc, ◌+◌, ◌*◌, Bool, false, cond, not, ◌&&◌, ◌||◌, List, length, Some, None, Ok, Err, Option, Result, ◌==◌, nat_le, nat_lt}
 use Rattle.fault.specs.declared.fault.BookCause.TheVariants.{Frame, Count, Field, Expression, Cell}
 use Rattle.fault.specs.declared.fault.Fault.{Fault}
 use Rattle.meaning.specs.Bytes.{byte_at, two_at, four_at}
 use Rattle.meaning.specs.Sets.{has, within, under, some_under}
 use Rattle.meaning.specs.Checks.{book_fault, require, bind, through}
-use Rattle.meaning.specs.Expression.{Scope, wrong, reads}
+use Rattle.meaning.specs.Expression.{wrong, reads}
 use Rattle.meaning.specs.Book.{Book, needs}
 use Rattle.meaning.specs.Layout.{Layout, layout, cells_from, starts_from, rules_from, clauses_from, code_from, room}
 use Rattle.meaning.specs.Parsed.{code_at, expression_at, rule_at, spelt}

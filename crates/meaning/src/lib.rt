@@ -1,4 +1,6 @@
 //! What a book is, what its file is, and what reading it answers: definitions, and the laws that stand above them.
+#![tactic(auto)]
+
 ghost use Rattle.meaning.specs.Exact.{Sound, Complete, Single};
 ghost use Rattle.meaning.specs.FlowList.{Listed, Emptied};
 
