@@ -1,5 +1,6 @@
 //! The sets are an order.
 ghost use Rattle.std.specs.Prelude.{◌≡◌, ◌<◌, MatchResult};
+ghost use Rattle.levels.specs.Inclusion.{sets_lawful, sets_meeting};
 ghost use Rattle.levels.specs.Orders.{sets, sets_meets, bad_size};
 
 use super::order::Order;
@@ -25,6 +26,10 @@ impl Order for SetOrder {
     ghost ranks = { λ o. sets o.members };
 
     ghost meets = { λ o. sets_meets o.members };
+
+    ghost lawful = { λ o. sets_lawful o.members o.few };
+
+    ghost meeting = { λ o. sets_meeting o.members };
 
     fn count(&self) -> u32 {
         1 << self.members

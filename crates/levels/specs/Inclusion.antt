@@ -1,4 +1,4 @@
--- Inclusion of sets is an order, and what two sets have in common is their meet.
+-- Inclusion of sets is an order, and what two sets have in common is their meet. Assumes nothing.
 use Rattle.std.proofs.Common.{◌≡◌, ℕ, ◌^◌, ◌<◌, ◌≤◌, Bool, true, false, cond, ◌&&◌, eqb, ltb, sym, ap, ◌∙◌, arith, pow_pos, pow_mono}
 use lib.Bits.{bit_and}
 use Rattle.std.proofs.lemmas.Nat.{and_le_l}
@@ -6,7 +6,6 @@ use Rattle.std.proofs.lemmas.Bool.{and_parts, and_from, ltb-true, lt-ltb, eqb-tr
 use Rattle.levels.specs.Orders.{both_inside, sets, sets_meets}
 use Rattle.meaning.specs.Levels.{Lawful, Meeting}
 use Rattle.meaning.proofs.Masks.{and_self, and_left, and_right, and_greatest, within_trans, within_antisym}
-use Rattle.levels.proofs.set_order_order.SetOrderOrder.TheImpl.Goals as goal
 
 module _ (c : ℕ) where
   -- a set that is at or below another: both are levels, and all its members are the other's
@@ -24,7 +23,7 @@ module _ (c : ℕ) where
   tells : (a b : ℕ) → Included a b → (sets c).below a b ≡ true
   tells a b h = and_from _ _ (and_from _ _ (lt-ltb _ _ h.low) (lt-ltb _ _ h.high)) (eq-eqb _ _ h.all)
 
-  sets_lawful : c ≤ 4 → Lawful (sets c)
+  pub sets_lawful : c ≤ 4 → Lawful (sets c)
   sets_lawful few =
       record {
         some = pow_pos c;
@@ -39,7 +38,7 @@ module _ (c : ℕ) where
   met : (a b : ℕ) → a < 2 ^ c → b < 2 ^ c → (sets_meets c).meet a b ≡ bit_and a b
   met a b low high = cond-true _ _ _ (and_from _ _ (lt-ltb _ _ low) (lt-ltb _ _ high))
 
-  sets_meeting : Meeting (sets c) (sets_meets c)
+  pub sets_meeting : Meeting (sets c) (sets_meets c)
   sets_meeting =
       record {
         at_left = λ a b low high. ap (λ x. (sets c).below x a) (met a b low high) ∙ tells _ a (record { low = omega (arith, and_le_l a b); high = low; all = and_left a b });
@@ -47,9 +46,3 @@ module _ (c : ℕ) where
         greatest = λ a b d e f. let p = told d a e in let q = told d b f in ap ((sets c).below d) (met a b p.high q.high) ∙ tells d _ (record { low = p.low; high = omega (arith, p.high, and_le_l a b); all = and_greatest a b d p.all q.all });
         outside = λ a b e. cond-false _ _ _ e;
       }
-
-pub lawful-law : goal.lawful-law
-lawful-law o = sets_lawful o.members o.few
-
-pub meeting-law : goal.meeting-law
-meeting-law o = sets_meeting o.members
