@@ -1,11 +1,10 @@
 -- Tables that hold what a file spells mean the book that it spells. Assumes nothing.
-use Rattle.std.proofs.Common.{◌≡◌, ℕ, zero, suc, ◌+◌, ◌*◌, ◌<◌, ◌≤◌, Bool, true, false, cond, eqb, List, [], ◌∷◌, map, take, drop, sym, refl, ap, ◌∙◌, add-zero, arith}
+use Rattle.std.proofs.Common.{◌≡◌, ℕ, zero, suc, ◌+◌, ◌*◌, ◌<◌, ◌≤◌, Bool, true, false, cond, eqb, List, [], ◌∷◌, map, take, drop, refl, ap, ◌∙◌, arith}
 use mathlib.Core.List.{map-map}
 use Rattle.std.specs.List.{range_with_len}
 use Rattle.std.proofs.lemmas.List.FromFn.{take-map-range_with_len}
 use Rattle.std.proofs.lemmas.List.{drop-drop}
-use Rattle.meaning.specs.Book as meant
-use Rattle.meaning.specs.Bytes.{byte_at, two_at, part}
+use Rattle.meaning.specs.Bytes.{byte_at, two_at}
 use Rattle.meaning.specs.Expression.{decoded}
 use Rattle.meaning.specs.Parsed.{expression_at, slot_at, slots_at, rule_at, clause_at}
 use Rattle.book.specs.declared.rule.Slot.{Slot}

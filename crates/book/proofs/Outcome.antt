@@ -1,5 +1,5 @@
 -- What reading gives, from the answers of its parts. Assumes nothing.
-use Rattle.std.proofs.Common.{◌≡◌, ℕ, ◌+◌, ◌*◌, ◌<◌, ◌≤◌, List, length, Ok, Err, sym, refl, ap, ◌∙◌, subst, arith}
+use Rattle.std.proofs.Common.{◌≡◌, ℕ, ◌+◌, ◌*◌, ◌<◌, ◌≤◌, List, length, Ok, Err, sym, refl, ap, ◌∙◌, arith}
 use Rattle.fault.specs.declared.fault.Fault.{Fault}
 use Rattle.meaning.specs.Book.{Book}
 use Rattle.meaning.specs.Bytes.{Bytes, byte_at}
@@ -10,7 +10,7 @@ use Rattle.meaning.specs.Parsed.{spelt}
 use Rattle.meaning.specs.Reading.{Verdict, mask_checked, rule_checked, head_checked, fields_checked, expressions_checked, cells_checked, checked, reading}
 use Rattle.meaning.specs.WellFormed.{WellFormed}
 use Rattle.meaning.proofs.Complete.{complete}
-use Rattle.meaning.proofs.CompleteFile.{counts, layout_is, room_is}
+use Rattle.meaning.proofs.CompleteFile.{layout_is, room_is}
 use Rattle.meaning.proofs.Loops.{each}
 use Rattle.meaning.proofs.Rows.{both}
 use Rattle.meaning.proofs.Sizes.{code_fits}

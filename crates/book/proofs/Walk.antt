@@ -1,5 +1,5 @@
 -- One instruction taken off the front of some code. Assumes nothing.
-use Rattle.std.proofs.Common.{◌≡◌, ℕ, ◌+◌, ◌-◌, ◌<◌, ◌≤◌, true, false, cond, List, [], ◌∷◌, length, drop, Some, None, Option, sym, refl, ap, ◌∙◌, subst, arith}
+use Rattle.std.proofs.Common.{◌≡◌, ℕ, ◌+◌, ◌-◌, ◌<◌, cond, List, [], ◌∷◌, length, drop, Some, None, Option, sym, refl, ap, ◌∙◌, arith}
 use Rattle.std.proofs.lemmas.List.{length-drop}
 use Rattle.meaning.specs.declared.instruction.Instruction.{Instruction}
 use Rattle.meaning.specs.Expression.{Scope, Front, front, encoded_instruction, decoded, decoded_after, wrong_after, may_stand, deepened}

@@ -1,9 +1,8 @@
 -- What a file's bytes spell, as the code's tables hold it. Assumes nothing.
-use Rattle.std.specs.Prelude.{ℕ, ◌+◌, Bool, cond, List, [], ◌∷◌, ◌==◌}
+use Rattle.std.specs.Prelude.{ℕ, ◌+◌, cond, List, [], ◌∷◌, ◌==◌}
 use Rattle.book.specs.declared.rule.Span.{Span}
 use Rattle.book.specs.declared.rule.Slot.{Slot}
 use Rattle.book.specs.declared.rule.Action.{Action}
-use Rattle.book.specs.declared.rule.Kind.{Kind}
 use Rattle.book.specs.declared.rule.Kind.TheVariants.{Local, Remote}
 use Rattle.book.specs.declared.rule.Rule.{Rule}
 use Rattle.book.specs.declared.rule.Clause.{Clause}

@@ -1,4 +1,5 @@
 //! Books: their types, the reader of their files, and the draft that it fills. No heap is used.
+#![tactic(auto)]
 
 mod action;
 mod book;

@@ -1,5 +1,5 @@
 -- The two orders: numbers on a ladder, and sets by inclusion. Assumes nothing.
-use Rattle.std.specs.Prelude.{ℕ, ◌^◌, min, Bool, cond, ◌&&◌, Ok, Err, Result, bit_and, nat_le, nat_lt}
+use Rattle.std.specs.Prelude.{ℕ, ◌^◌, min, Bool, cond, ◌&&◌, bit_and, nat_le, nat_lt}
 use Rattle.fault.specs.declared.fault.CallCause.TheVariants.{Argument}
 use Rattle.fault.specs.declared.fault.Layer.TheVariants.{Call}
 use Rattle.fault.specs.declared.fault.Fault.{Fault}

@@ -1,5 +1,5 @@
 -- What a scale means. Assumes nothing.
-use Rattle.std.specs.Prelude.{ℕ, ◌+◌, ◌*◌, Bool, false, cond, ◌&&◌, slice_index, slice_index_or}
+use Rattle.std.specs.Prelude.{◌+◌, ◌*◌, false, cond, ◌&&◌, slice_index, slice_index_or}
 use Rattle.meaning.specs.Levels.{Order, Meets}
 use Rattle.levels.specs.Orders.{both_inside}
 use Rattle.levels.specs.declared.scale.Scale.{Scale}

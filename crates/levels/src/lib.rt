@@ -1,4 +1,5 @@
 //! Security orders: the interface, ladders and sets.
+#![tactic(auto)]
 
 mod ladder;
 mod ladder_order;

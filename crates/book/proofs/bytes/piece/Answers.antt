@@ -1,5 +1,5 @@
 -- Past the end there is nothing to take, so a place or a count that is cut to the length takes the same.
-use Rattle.std.proofs.Common.{◌≡◌, ℕ, ◌+◌, ◌-◌, length, drop, ap, ◌∙◌, arith, rules}
+use Rattle.std.proofs.Common.{arith, rules}
 use Rattle.std.proofs.lemmas.List.{same_lists, places}
 use Rattle.book.proofs.bytes.piece.Goals as goal
 

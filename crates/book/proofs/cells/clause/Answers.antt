@@ -5,7 +5,7 @@ use Rattle.fault.specs.declared.fault.BookCause.TheVariants.{Cell}
 use Rattle.meaning.specs.Bytes.{byte_at, four_at}
 use Rattle.meaning.specs.Checks.{book_fault, require}
 use Rattle.meaning.specs.Expression.{reads, decoded}
-use Rattle.meaning.specs.Layout.{cells_from, code_from}
+use Rattle.meaning.specs.Layout.{code_from}
 use Rattle.meaning.specs.Parsed.{expression_at}
 use Rattle.meaning.specs.Reading.{Verdict, clause_cells_checked}
 use Rattle.meaning.specs.Sets.{within}
@@ -21,10 +21,10 @@ unfolding clause_cells_checked
 told c =
     let bs = c.args.bytes.now in
     let l = plan c.args.layout.now in
-    let at = ap (λ p. p + 5 * c.args.i) c.clauses-from.ensures in
+    let at = ap (λ p. p + 5 * c.args.i) c.clauses_from.ensures in
     let device = c.from-device.ensures ∙ c.byte.ensures ∙ ap (byte_at bs) at in
     let needed = c.reads-needed.ensures ∙ ap (λ code. reads 0 (decoded code)) c.code.ensures ∙ ap (λ p. reads 0 (expression_at bs (code_from l) (p + 1))) at in
-    let cells = c.four-cells.ensures ∙ (λ k. four_at bs (c.cells-from.ensures k + 4 * device k)) in
+    let cells = c.four-cells.ensures ∙ (λ k. four_at bs (c.cells_from.ensures k + 4 * device k)) in
     λ k. require (within (needed k) (cells k)) (book_fault Cell (32 + c.args.i) (device k)) (Ok tt)
 
 pub returns-then-needed-cells : goal.returns-then-needed-cells

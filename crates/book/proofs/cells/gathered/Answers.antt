@@ -35,7 +35,7 @@ loop-k-preserved c =
     let slot = λ (k : ℕ). slot_at c.args.bytes.now (code_from (plan c.args.layout.now)) (c.args.at + 5 * k) in
     let here = slot c.loop-k.k in
     let wanted : c.if-targets.set ≡ cond c.args.targets (with_member c.loop-k.set here.target) c.loop-k.set = elim c.if-targets.branch [
-      | then-targets w ↦ w.set-is ∙ w.with-member-set.ensures ∙ ap (with_member c.loop-k.set) w.byte.ensures ∙ sym (cond-true _ _ _ w.if-targets.true)
+      | then-targets w ↦ w.set-is ∙ w.with_member-set.ensures ∙ ap (with_member c.loop-k.set) w.byte.ensures ∙ sym (cond-true _ _ _ w.if-targets.true)
       | else-targets w ↦ w.set-is ∙ sym (cond-false _ _ _ w.if-targets.false)
     ] in
     let read : c.reads-set.result ≡ reads (cond c.args.targets (with_member c.loop-k.set here.target) c.loop-k.set) here.value = c.reads-set.ensures ∙ (λ i. reads (wanted i) (decoded (c.code.ensures i))) in

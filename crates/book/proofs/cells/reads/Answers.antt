@@ -36,21 +36,21 @@ adds_none m (Apply o) other = refl
 now_took : (c : In-Some) → Took c.loop-instruction.rest.now c.in-Some.instruction c.in-Some.tail.now
 now_took c = took c.loop-instruction.rest.now c.in-Some.instruction c.in-Some.tail.now c.in-Some.ensures
 
-pub with-member-set-requires : goal.with-member-set-requires
-with-member-set-requires c =
-    ltb-true c.in-Own.resource 32 (ap small (sym c.in-Own.is) ∙ (small_parts (now_took (goal.at.with-member-set-requires c).In-Some) c.loop-instruction.invariant.1).0)
+pub with_member-set-requires : goal.with_member-set-requires
+with_member-set-requires c =
+    ltb-true c.in-Own.resource 32 (ap small (sym c.in-Own.is) ∙ (small_parts (now_took (goal.at.with_member-set-requires c).In-Some) c.loop-instruction.invariant.1).0)
 
 pub loop-instruction-preserved-in-Own : goal.loop-instruction-preserved-in-Own
 loop-instruction-preserved-in-Own c =
-    further (now_took (goal.at.loop-instruction-preserved-in-Own c).In-Some) c.loop-instruction.set _ _ (ap (own_read c.loop-instruction.set) c.in-Own.is ∙ sym c.with-member-set.ensures) c.loop-instruction.invariant
+    further (now_took (goal.at.loop-instruction-preserved-in-Own c).In-Some) c.loop-instruction.set _ _ (ap (own_read c.loop-instruction.set) c.in-Own.is ∙ sym c.with_member-set.ensures) c.loop-instruction.invariant
 
 pub loop-instruction-preserved : goal.loop-instruction-preserved
 loop-instruction-preserved c =
-    further (now_took (goal.at.loop-instruction-preserved c).In-Some) c.loop-instruction.set _ _ (adds_none _ c.in-Some.instruction c.in-default-instruction.not-Own) c.loop-instruction.invariant
+    further (now_took (goal.at.loop-instruction-preserved c).In-Some) c.loop-instruction.set _ _ (adds_none _ c.in-Some.instruction c.in_default-instruction.not-Own) c.loop-instruction.invariant
 
 pub loop-instruction-smaller : goal.loop-instruction-smaller
 loop-instruction-smaller c = shorter (now_took (goal.at.loop-instruction-smaller c).In-Some)
 
 pub returns : goal.returns
 unfolding expression.reads
-returns c = sym (ap (expression.reads c.loop-instruction.set) (spells_nothing c.loop-instruction.rest.now c.in-default.ensures)) ∙ c.loop-instruction.invariant.0
+returns c = sym (ap (expression.reads c.loop-instruction.set) (spells_nothing c.loop-instruction.rest.now c.in_default.ensures)) ∙ c.loop-instruction.invariant.0

@@ -11,15 +11,15 @@ loop-i-init c = begins (rule_cells_checked c.args.bytes.now (plan c.args.layout.
 
 pub rule-requires : goal.rule-requires
 rule-requires c =
-    (omega arith, rules_small c.args.bytes.now (plan c.args.layout.now) (λ i. (c.type-inv.bytes i).fits) (omega arith) c.requires.0 c.requires.1 c.loop-i.i c.loop-i-test.true)
+    (omega arith, rules_small c.args.bytes.now (plan c.args.layout.now) (λ i. (c.type_inv.bytes i).fits) (omega arith) c.requires.0 c.requires.1 c.loop-i.i c.loop-i-test.true)
 
 pub loop-i-preserved : goal.loop-i-preserved
 loop-i-preserved c =
-    goes_on (rule_cells_checked c.args.bytes.now (plan c.args.layout.now)) _ _ tt tt _ c.loop-i-test.true (sym c.in-ok-rule.ensures) c.loop-i.invariant
+    goes_on (rule_cells_checked c.args.bytes.now (plan c.args.layout.now)) _ _ tt tt _ c.loop-i-test.true (sym c.in_ok-rule.ensures) c.loop-i.invariant
 
-pub returns-in-err-rule : goal.returns-in-err-rule
-returns-in-err-rule c =
-    handed c.from-residual.result c.from-residual.ensures.1 ∙ refuses (rule_cells_checked c.args.bytes.now (plan c.args.layout.now)) _ _ tt _ _ c.loop-i-test.true (sym c.in-err-rule.ensures) c.loop-i.invariant
+pub returns-in_err-rule : goal.returns-in_err-rule
+returns-in_err-rule c =
+    handed c.from_residual.result c.from_residual.ensures.1 ∙ refuses (rule_cells_checked c.args.bytes.now (plan c.args.layout.now)) _ _ tt _ _ c.loop-i-test.true (sym c.in_err-rule.ensures) c.loop-i.invariant
 
 pub returns : goal.returns
 returns c = ends (rule_cells_checked c.args.bytes.now (plan c.args.layout.now)) _ _ tt _ c.loop-i-test.false c.loop-i.invariant

@@ -11,11 +11,11 @@ loop-i-init c = begins (λ i _. expression_checked c.args.bytes.now (plan c.args
 
 pub loop-i-preserved : goal.loop-i-preserved
 loop-i-preserved c =
-    goes_on (λ i _. expression_checked c.args.bytes.now (plan c.args.layout.now) false (clauses_from (plan c.args.layout.now) + 5 * i + 1)) _ _ tt tt _ c.loop-i-test.true (ap (λ p. expression_checked c.args.bytes.now (plan c.args.layout.now) false (p + 5 * c.loop-i.i + 1)) (sym c.clauses-from.ensures) ∙ sym c.in-ok-expression.ensures) c.loop-i.invariant
+    goes_on (λ i _. expression_checked c.args.bytes.now (plan c.args.layout.now) false (clauses_from (plan c.args.layout.now) + 5 * i + 1)) _ _ tt tt _ c.loop-i-test.true (ap (λ p. expression_checked c.args.bytes.now (plan c.args.layout.now) false (p + 5 * c.loop-i.i + 1)) (sym c.clauses_from.ensures) ∙ sym c.in_ok-expression.ensures) c.loop-i.invariant
 
-pub returns-in-err-expression : goal.returns-in-err-expression
-returns-in-err-expression c =
-    handed c.from-residual.result c.from-residual.ensures.1 ∙ refuses (λ i _. expression_checked c.args.bytes.now (plan c.args.layout.now) false (clauses_from (plan c.args.layout.now) + 5 * i + 1)) _ _ tt _ _ c.loop-i-test.true (ap (λ p. expression_checked c.args.bytes.now (plan c.args.layout.now) false (p + 5 * c.loop-i.i + 1)) (sym c.clauses-from.ensures) ∙ sym c.in-err-expression.ensures) c.loop-i.invariant
+pub returns-in_err-expression : goal.returns-in_err-expression
+returns-in_err-expression c =
+    handed c.from_residual.result c.from_residual.ensures.1 ∙ refuses (λ i _. expression_checked c.args.bytes.now (plan c.args.layout.now) false (clauses_from (plan c.args.layout.now) + 5 * i + 1)) _ _ tt _ _ c.loop-i-test.true (ap (λ p. expression_checked c.args.bytes.now (plan c.args.layout.now) false (p + 5 * c.loop-i.i + 1)) (sym c.clauses_from.ensures) ∙ sym c.in_err-expression.ensures) c.loop-i.invariant
 
 pub returns : goal.returns
 returns c = ends (λ i _. expression_checked c.args.bytes.now (plan c.args.layout.now) false (clauses_from (plan c.args.layout.now) + 5 * i + 1)) _ _ tt _ c.loop-i-test.false c.loop-i.invariant

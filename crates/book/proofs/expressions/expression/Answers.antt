@@ -1,13 +1,11 @@
 -- A bad length has place 0, and else the walk over the code gives the place.
-use Rattle.std.proofs.Common.{◌≡◌, ◌+◌, ◌≤◌, length, drop, Some, None, sym, ap, arith, length-take, rules}
+use Rattle.std.proofs.Common.{◌≡◌, ◌+◌, length, drop, Some, None, sym, ap, arith, length-take, rules}
 use Rattle.std.proofs.lemmas.Bool.Decides.{nat_tests}
-use Rattle.meaning.specs.Bytes.{two_at}
 use Rattle.meaning.specs.Expression.{wrong}
 use Rattle.meaning.specs.Layout.{code_from}
 use Rattle.meaning.specs.Parsed.{code_at}
 use Rattle.meaning.specs.Reading.{expression_checked}
 use Rattle.book.specs.Plan.{plan}
-use Rattle.book.specs.Scopes.{scoped}
 use Rattle.book.proofs.expressions.expression.Goals as goal
 
 pub returns-then-size-lt1 : goal.returns-then-size-lt1
@@ -16,7 +14,7 @@ returns-then-size-lt1 c = search rules
 
 pub refusal-requires-in-Some : goal.refusal-requires-in-Some
 refusal-requires-in-Some c =
-    (omega arith, omega (arith, c.in-Some.ensures.bound, ap length c.piece.ensures, length-take c.from-2.result (drop (c.code-from.result + c.from.result) c.args.bytes.now)))
+    (omega arith, omega (arith, c.in-Some.ensures.bound, ap length c.piece.ensures, length-take c.from-2.result (drop (c.code_from.result + c.from.result) c.args.bytes.now)))
 
 pub returns-in-Some : goal.returns-in-Some
 unfolding expression_checked

@@ -12,12 +12,12 @@ loop-k-init c = begins (slot_checked c.args.bytes.now (plan c.args.layout.now) c
 pub loop-k-preserved : goal.loop-k-preserved
 unfolding action_checked
 loop-k-preserved c =
-    goes_on (slot_checked c.args.bytes.now (plan c.args.layout.now) c.args.at c.args.count) 4 _ _ _ _ c.loop-k-test.true (sym c.in-ok-next.ensures) c.loop-k.invariant
+    goes_on (slot_checked c.args.bytes.now (plan c.args.layout.now) c.args.at c.args.count) 4 _ _ _ _ c.loop-k-test.true (sym c.in_ok-next.ensures) c.loop-k.invariant
 
-pub returns-in-err-next : goal.returns-in-err-next
+pub returns-in_err-next : goal.returns-in_err-next
 unfolding action_checked
-returns-in-err-next c =
-    handed c.from-residual.result c.from-residual.ensures.1 ∙ refuses (slot_checked c.args.bytes.now (plan c.args.layout.now) c.args.at c.args.count) 4 _ _ _ _ c.loop-k-test.true (sym c.in-err-next.ensures) c.loop-k.invariant
+returns-in_err-next c =
+    handed c.from_residual.result c.from_residual.ensures.1 ∙ refuses (slot_checked c.args.bytes.now (plan c.args.layout.now) c.args.at c.args.count) 4 _ _ _ _ c.loop-k-test.true (sym c.in_err-next.ensures) c.loop-k.invariant
 
 pub returns : goal.returns
 unfolding action_checked

@@ -11,11 +11,11 @@ loop-i-init c = begins (λ i. clause_checked c.args.bytes.now (plan c.args.layou
 
 pub loop-i-preserved : goal.loop-i-preserved
 loop-i-preserved c =
-    goes_on (λ i. clause_checked c.args.bytes.now (plan c.args.layout.now) (clauses_from (plan c.args.layout.now) + 5 * i)) _ _ _ _ _ c.loop-i-test.true (cc c.in-ok-next.ensures) c.loop-i.invariant
+    goes_on (λ i. clause_checked c.args.bytes.now (plan c.args.layout.now) (clauses_from (plan c.args.layout.now) + 5 * i)) _ _ _ _ _ c.loop-i-test.true (cc c.in_ok-next.ensures) c.loop-i.invariant
 
-pub returns-in-err-next : goal.returns-in-err-next
-returns-in-err-next c =
-    handed c.from-residual.result c.from-residual.ensures.1 ∙ refuses (λ i. clause_checked c.args.bytes.now (plan c.args.layout.now) (clauses_from (plan c.args.layout.now) + 5 * i)) _ _ _ _ _ c.loop-i-test.true (cc c.in-err-next.ensures) c.loop-i.invariant
+pub returns-in_err-next : goal.returns-in_err-next
+returns-in_err-next c =
+    handed c.from_residual.result c.from_residual.ensures.1 ∙ refuses (λ i. clause_checked c.args.bytes.now (plan c.args.layout.now) (clauses_from (plan c.args.layout.now) + 5 * i)) _ _ _ _ _ c.loop-i-test.true (cc c.in_err-next.ensures) c.loop-i.invariant
 
 pub returns : goal.returns
 returns c = ends (λ i. clause_checked c.args.bytes.now (plan c.args.layout.now) (clauses_from (plan c.args.layout.now) + 5 * i)) _ _ _ _ c.loop-i-test.false c.loop-i.invariant

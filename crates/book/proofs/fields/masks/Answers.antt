@@ -10,11 +10,11 @@ loop-d-init c = begins (mask_checked c.args.bytes.now (plan c.args.layout.now)) 
 
 pub loop-d-preserved : goal.loop-d-preserved
 loop-d-preserved c =
-    goes_on (mask_checked c.args.bytes.now (plan c.args.layout.now)) _ _ tt tt _ c.loop-d-test.true (sym c.in-ok-mask.ensures) c.loop-d.invariant
+    goes_on (mask_checked c.args.bytes.now (plan c.args.layout.now)) _ _ tt tt _ c.loop-d-test.true (sym c.in_ok-mask.ensures) c.loop-d.invariant
 
-pub returns-in-err-mask : goal.returns-in-err-mask
-returns-in-err-mask c =
-    handed c.from-residual.result c.from-residual.ensures.1 ∙ refuses (mask_checked c.args.bytes.now (plan c.args.layout.now)) _ _ tt _ _ c.loop-d-test.true (sym c.in-err-mask.ensures) c.loop-d.invariant
+pub returns-in_err-mask : goal.returns-in_err-mask
+returns-in_err-mask c =
+    handed c.from_residual.result c.from_residual.ensures.1 ∙ refuses (mask_checked c.args.bytes.now (plan c.args.layout.now)) _ _ tt _ _ c.loop-d-test.true (sym c.in_err-mask.ensures) c.loop-d.invariant
 
 pub returns : goal.returns
 returns c = ends (mask_checked c.args.bytes.now (plan c.args.layout.now)) _ _ tt _ c.loop-d-test.false c.loop-d.invariant

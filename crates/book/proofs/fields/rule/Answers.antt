@@ -6,24 +6,24 @@ use Rattle.book.specs.Plan.{plan}
 use Rattle.book.proofs.Exits.{handed}
 use Rattle.book.proofs.fields.rule.Goals as goal
 
-pub returns-in-err-head : goal.returns-in-err-head
+pub returns-in_err-head : goal.returns-in_err-head
 unfolding rule_checked
-returns-in-err-head c =
-    handed c.from-residual.result c.from-residual.ensures.1 ∙ sym (rw (sym c.in-err-head.ensures))
+returns-in_err-head c =
+    handed c.from_residual.result c.from_residual.ensures.1 ∙ sym (rw (sym c.in_err-head.ensures))
 
-pub returns-in-err-next : goal.returns-in-err-next
+pub returns-in_err-next : goal.returns-in_err-next
 unfolding rule_checked
-returns-in-err-next c =
-    handed c.from-residual-in-err-next.result c.from-residual-in-err-next.ensures.1 ∙ sym (rw (sym c.in-ok-head.ensures, sym c.in-err-next.ensures))
+returns-in_err-next c =
+    handed c.from_residual-in_err-next.result c.from_residual-in_err-next.ensures.1 ∙ sym (rw (sym c.in_ok-head.ensures, sym c.in_err-next.ensures))
 
-pub returns-in-err-next-2 : goal.returns-in-err-next-2
+pub returns-in_err-next-2 : goal.returns-in_err-next-2
 unfolding rule_checked
-returns-in-err-next-2 c =
-    let defaults : action_checked c.args.bytes.now (plan c.args.layout.now) (c.args.at + 13) (byte_at c.args.bytes.now (c.args.at + 7)) c.in-ok-next.next ≡ Err c.in-err-next-2.field-0.0 = cc c.in-err-next-2.ensures in
-    handed c.from-residual-in-err-next-2.result c.from-residual-in-err-next-2.ensures.1 ∙ sym (rw (sym c.in-ok-head.ensures, sym c.in-ok-next.ensures, defaults))
+returns-in_err-next-2 c =
+    let defaults : action_checked c.args.bytes.now (plan c.args.layout.now) (c.args.at + 13) (byte_at c.args.bytes.now (c.args.at + 7)) c.in_ok-next.next ≡ Err c.in_err-next-2.field-0.0 = cc c.in_err-next-2.ensures in
+    handed c.from_residual-in_err-next-2.result c.from_residual-in_err-next-2.ensures.1 ∙ sym (rw (sym c.in_ok-head.ensures, sym c.in_ok-next.ensures, defaults))
 
 pub returns : goal.returns
 unfolding rule_checked
 returns c =
-    let defaults : action_checked c.args.bytes.now (plan c.args.layout.now) (c.args.at + 13) (byte_at c.args.bytes.now (c.args.at + 7)) c.in-ok-next.next ≡ Ok c.in-ok-next-2.next = cc c.in-ok-next-2.ensures in
-    c.action-2.ensures ∙ sym (rw (sym c.in-ok-head.ensures, sym c.in-ok-next.ensures, defaults) (cc))
+    let defaults : action_checked c.args.bytes.now (plan c.args.layout.now) (c.args.at + 13) (byte_at c.args.bytes.now (c.args.at + 7)) c.in_ok-next.next ≡ Ok c.in_ok-next-2.next = cc c.in_ok-next-2.ensures in
+    c.action-2.ensures ∙ sym (rw (sym c.in_ok-head.ensures, sym c.in_ok-next.ensures, defaults) (cc))

@@ -5,18 +5,18 @@ use Rattle.meaning.specs.Reading.{sections_checked, checked}
 use Rattle.book.proofs.Exits.{handed}
 use Rattle.book.proofs.header.header.Goals as goal
 
-pub returns-in-err-first : goal.returns-in-err-first
+pub returns-in_err-first : goal.returns-in_err-first
 unfolding checked
-returns-in-err-first c =
-    rw (handed c.from-residual.result c.from-residual.ensures.1) (rw (sym c.in-err-first.ensures))
+returns-in_err-first c =
+    rw (handed c.from_residual.result c.from_residual.ensures.1) (rw (sym c.in_err-first.ensures))
 
-pub returns-in-err-counts : goal.returns-in-err-counts
+pub returns-in_err-counts : goal.returns-in_err-counts
 unfolding checked
-returns-in-err-counts c =
-    rw (handed c.from-residual-in-err-counts.result c.from-residual-in-err-counts.ensures.1) (rw (sym c.in-ok-first.ensures, sym c.in-err-counts.ensures))
+returns-in_err-counts c =
+    rw (handed c.from_residual-in_err-counts.result c.from_residual-in_err-counts.ensures.1) (rw (sym c.in_ok-first.ensures, sym c.in_err-counts.ensures))
 
-pub returns-in-err-sections : goal.returns-in-err-sections
+pub returns-in_err-sections : goal.returns-in_err-sections
 unfolding checked
-returns-in-err-sections c =
-    let wrong : sections_checked c.args.bytes.now (layout c.args.bytes.now) ≡ Err c.in-err-sections.field-0.0 = cc c.in-err-sections.ensures in
-    rw (handed c.from-residual-in-err-sections.result c.from-residual-in-err-sections.ensures.1) (rw (sym c.in-ok-first.ensures, sym c.in-ok-counts.ensures, wrong))
+returns-in_err-sections c =
+    let wrong : sections_checked c.args.bytes.now (layout c.args.bytes.now) ≡ Err c.in_err-sections.field-0.0 = cc c.in_err-sections.ensures in
+    rw (handed c.from_residual-in_err-sections.result c.from_residual-in_err-sections.ensures.1) (rw (sym c.in_ok-first.ensures, sym c.in_ok-counts.ensures, wrong))

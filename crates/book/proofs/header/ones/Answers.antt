@@ -19,13 +19,13 @@ unfolding ones_at
 none bs p n d h = let left : n - d ≡ 0 = omega arith in ap (ones_at bs p) left
 
 few : (c : After-four) → ones c.four.result ≤ 32
-few c = ones-le 32 c.four.result c.four.type-inv
+few c = ones-le 32 c.four.result c.four.type_inv
 
-pub overflow-cast-sum : goal.overflow-cast-sum
-overflow-cast-sum c = record { fits = omega (arith, few (goal.at.overflow-cast-sum c).After-four) }
+pub overflow_cast-sum : goal.overflow_cast-sum
+overflow_cast-sum c = record { fits = omega (arith, few (goal.at.overflow_cast-sum c).After-four) }
 
-pub overflow-add-sum : goal.overflow-add-sum
-overflow-add-sum c = record { fits = omega (arith, few (goal.at.overflow-add-sum c).After-four) }
+pub overflow_add-sum : goal.overflow_add-sum
+overflow_add-sum c = record { fits = omega (arith, few (goal.at.overflow_add-sum c).After-four) }
 
 pub loop-d-init : goal.loop-d-init
 loop-d-init c =

@@ -1,5 +1,5 @@
 -- Each pattern is one way of the definition: its first byte, and as many bytes as the instruction takes.
-use Rattle.std.proofs.Common.{◌≡◌, ℕ, ◌≤◌, List, length, get_or, Some, sym, ap, ◌∙◌, arith, w32, SFits, to_z, of_z, rules}
+use Rattle.std.proofs.Common.{◌≡◌, get_or, Some, sym, ap, ◌∙◌, arith, w32, SFits, to_z, of_z, rules}
 use Rattle.std.proofs.lemmas.List.{take_rest}
 use Rattle.std.proofs.lemmas.Int.{to_z-of_z}
 use Rattle.std.proofs.lemmas.Bool.Decides.{nat_tests}
@@ -9,8 +9,8 @@ use Rattle.book.proofs.opcode.front.Goals as goal
 
 pub returns-in-0 : goal.returns-in-0
 returns-in-0 c =
-    let fits : SFits w32 c.from-be-bytes.result = search rules in
-    let value : to_z w32 (of_z w32 c.from-be-bytes.result) ≡ to_z w32 (four_at c.args.code.now 1) = to_z-of_z w32 _ fits ∙ c.from-be-bytes.ensures ∙ ap (to_z w32) (omega arith) in
+    let fits : SFits w32 c.from_be_bytes.result = search rules in
+    let value : to_z w32 (of_z w32 c.from_be_bytes.result) ≡ to_z w32 (four_at c.args.code.now 1) = to_z-of_z w32 _ fits ∙ c.from_be_bytes.ensures ∙ ap (to_z w32) (omega arith) in
     simp (take_rest, value) (grind (arith, nat_tests))
 
 pub returns-in-2 : goal.returns-in-2

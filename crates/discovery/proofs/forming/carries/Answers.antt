@@ -8,5 +8,5 @@ pub returns-else-device-lt32 : goal.returns-else-device-lt32
 returns-else-device-lt32 c =
     let d = c.args.device in
     let m = c.args.rule.now.carriers in
-    let far : m < 2 ^ d = omega (arith, pow_mono {i = 32} {j = d} c.if-device-lt32.false, c.from-carriers.type-inv, c.from-carriers.ensures) in
+    let far : m < 2 ^ d = omega (arith, pow_mono {i = 32} {j = d} c.if-device-lt32.false, c.from-carriers.type_inv, c.from-carriers.ensures) in
     le-ltb d 32 c.if-device-lt32.false ∙ sym (ap (λ n. eqb (n % 2) 1) (div-eq_of_lt far))

@@ -35,7 +35,7 @@ loop-slot-number-preserved g c =
     let own = c.from.ensures in
     let other = c.from-in-loop-slot-number.ensures in
     let item = ap (λ x. value_at T c.args.device c.args.receiver (spanned code x.value)) (get_or_default used k _ no_slot c.loop-slot-number-test.true) in
-    filled_more (λ j v. v ≡ value_at T c.args.device c.args.receiver (spanned code (get_or used j no_slot).value)) c.loop-slot-number.values 4 k (pos 0) _ c.loop-slot-number.invariant.0 few (to_z-of_z w32 c.evaluate.result (record { sfits = c.evaluate.type-inv }) ∙ c.evaluate.ensures ∙ (λ i. value_at (c.none-none.ensures T i) (own i) (other i) (decoded (c.code-of-code.ensures i))) ∙ item) c.loop-slot-number.invariant.1
+    filled_more (λ j v. v ≡ value_at T c.args.device c.args.receiver (spanned code (get_or used j no_slot).value)) c.loop-slot-number.values 4 k (pos 0) _ c.loop-slot-number.invariant.0 few (to_z-of_z w32 c.evaluate.result (record { sfits = c.evaluate.type_inv }) ∙ c.evaluate.ensures ∙ (λ i. value_at (c.none-none.ensures T i) (own i) (other i) (decoded (c.code-of-code.ensures i))) ∙ item) c.loop-slot-number.invariant.1
 
 pub returns : goal.returns
 returns g c =

@@ -3,8 +3,8 @@ use Rattle.std.proofs.Common.{◌/◌, ◌%◌, arith}
 use Rattle.levels.proofs.Tables.{entry_more, meet_level}
 use Rattle.levels.proofs.writing.meets.Goals as goal
 
-pub overflow-cast-meets : goal.overflow-cast-meets
-overflow-cast-meets g c =
+pub overflow_cast-meets : goal.overflow_cast-meets
+overflow_cast-meets g c =
     let o = c.args.order.now in
     record { fits = omega (arith, c.meet.ensures, meet_level _ (g.met.O.Order.lawful o) _ (g.met.O.Order.meeting o) (c.loop-k.k / 16) (c.loop-k.k % 16)) }
 

@@ -5,4 +5,4 @@ use Rattle.book.proofs.book.Book.cells_of.Goals as goal
 
 pub returns-else-device-cells : goal.returns-else-device-cells
 returns-else-device-cells c =
-    past_zero _ c.used-cells-cells.result.now c.args.device c.used-cells-cells.ensures (omega arith)
+    past_zero _ c.used_cells-cells.result.now c.args.device c.used_cells-cells.ensures (omega arith)

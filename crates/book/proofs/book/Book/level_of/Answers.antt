@@ -5,4 +5,4 @@ use Rattle.book.proofs.book.Book.level_of.Goals as goal
 
 pub returns-else-resource-levels : goal.returns-else-resource-levels
 returns-else-resource-levels c =
-    past_zero _ c.used-levels-levels.result.now c.args.resource c.used-levels-levels.ensures (omega arith)
+    past_zero _ c.used_levels-levels.result.now c.args.resource c.used_levels-levels.ensures (omega arith)

@@ -5,7 +5,7 @@ use Rattle.meaning.specs.File.{count_cells}
 use Rattle.meaning.specs.WellFormed.{every}
 use Rattle.book.proofs.draft.Draft.smallest.Goals as goal
 
-pub invariant-of-result : goal.invariant-of-result
+pub invariant_of-result : goal.invariant_of-result
 unfolding count_cells every
-invariant-of-result c =
-    (((omega arith, omega arith, omega arith, omega arith), (omega arith, omega arith), (refl, refl, omega (arith, ones-le 0 0 (omega arith)), refl), (refl, refl, refl, refl)), tt)
+invariant_of-result c =
+    record { right = ((omega arith, omega arith, omega arith, omega arith), (omega arith, omega arith), (refl, refl, omega (arith, ones-le 0 0 (omega arith)), refl), (refl, refl, refl, refl)) }
