@@ -1,13 +1,13 @@
 -- What the list and the look at a book give, from what was put and tested. Assumes nothing.
-use Rattle.std.proofs.Common.{◌≡◌, ℕ, zero, suc, ◌+◌, ◌*◌, ◌<◌, ◌≤◌, Bool, true, false, cond, ◌&&◌, ltb, leb, List, [], ◌∷◌, ◌++◌, length, get_or, drop, is_ok, is_err, Ok, Err, Result, sym, refl, ap, ◌∙◌, subst, arith}
-use Rattle.std.proofs.lemmas.Bool.{le-leb, lt-leb, lt-ltb, and_from, and_parts, true≢false, false≢true}
+use Rattle.std.proofs.Common.{◌≡◌, ℕ, zero, suc, ◌+◌, ◌*◌, ◌<◌, ◌≤◌, Bool, true, false, ltb, leb, List, [], ◌∷◌, ◌++◌, length, get_or, drop, is_ok, is_err, Ok, Err, sym, refl, ap, ◌∙◌, arith}
+use Rattle.std.proofs.lemmas.Bool.{le-leb, lt-leb, lt-ltb, and_from, true≢false, false≢true}
 use Rattle.fault.specs.declared.fault.CallCause.TheVariants.{Buffer}
 use Rattle.fault.specs.declared.fault.OrderCause.TheVariants as cause
 use Rattle.fault.specs.declared.fault.Layer.TheVariants as layer
 use Rattle.fault.specs.declared.fault.Fault.{Fault}
 use Rattle.meaning.specs.Book.{Book, resources, smallest}
 use Rattle.meaning.specs.Checks.{require, bind, through}
-use Rattle.meaning.specs.Flow.{Flow, level, levelled, Sound}
+use Rattle.meaning.specs.Flow.{Flow, level, levelled}
 use Rattle.meaning.specs.FlowList.{flow_list, flows_bytes}
 use Rattle.meaning.specs.Levels.{Order}
 use Rattle.meaning.specs.Reading.{Verdict}

@@ -1,5 +1,5 @@
 -- What the verdict on a book is. Assumes nothing.
-use Rattle.std.specs.Prelude.{◌≡◌, ℕ, ◌*◌, Bool, true, false, cond, List, [], ◌∷◌, ◌++◌, length, drop, is_ok, Ok, Err, Result, ◌==◌, nat_le, nat_lt}
+use Rattle.std.specs.Prelude.{◌≡◌, ℕ, ◌*◌, Bool, true, cond, List, [], ◌∷◌, ◌++◌, length, drop, is_ok, Ok, Err, Result, ◌==◌, nat_le, nat_lt}
 use Rattle.fault.specs.declared.fault.CallCause.TheVariants.{Buffer}
 use Rattle.fault.specs.declared.fault.OrderCause.TheVariants as cause
 use Rattle.fault.specs.declared.fault.Layer.TheVariants as layer

@@ -1,4 +1,5 @@
 //! The verdict on a book under a security order.
+#![tactic(auto)]
 
 mod accepted;
 mod gather;

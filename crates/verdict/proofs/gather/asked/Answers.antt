@@ -15,11 +15,11 @@ folds code = record { none = λ m. refl; more = λ m x xs. refl }
 
 pub reads-set-requires : goal.reads-set-requires
 reads-set-requires c =
-    subst Small (sym c.code-of.ensures) (slot_fine c.args.book.now c.args.action.now c.requires c.used-slot-items.result.now c.used-slot-items.ensures c.loop-slot.slot-index _ c.loop-slot-test.true).value
+    subst Small (sym c.code_of.ensures) (slot_fine c.args.book.now c.args.action.now c.requires c.used-slot-items.result.now c.used-slot-items.ensures c.loop-slot.slot-index _ c.loop-slot-test.true).value
 
 pub loop-slot-preserved : goal.loop-slot-preserved
 loop-slot-preserved c =
-    goes_on (folds (code_of c.args.book.now)) c.used-slot-items.result.now c.loop-slot.slot-index _ c.loop-slot.set _ _ c.loop-slot-test.true (c.reads-set.ensures ∙ ap (λ bs. asks c.loop-slot.set (decoded bs)) c.code-of.ensures) c.loop-slot.invariant
+    goes_on (folds (code_of c.args.book.now)) c.used-slot-items.result.now c.loop-slot.slot-index _ c.loop-slot.set _ _ c.loop-slot-test.true (c.reads-set.ensures ∙ ap (λ bs. asks c.loop-slot.set (decoded bs)) c.code_of.ensures) c.loop-slot.invariant
 
 pub returns : goal.returns
 returns c =

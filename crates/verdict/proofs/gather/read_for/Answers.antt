@@ -15,9 +15,9 @@ folds : (t : ℕ) (code : List ℕ) → Folds (λ m (xs : List Slot). meant.read
 unfolding meant.read_for
 folds t code = record { none = λ m. refl; more = λ m x xs. refl }
 
-pub both-reads-set-requires : goal.both-reads-set-requires
-both-reads-set-requires c =
-    subst Small (sym c.code-of.ensures) (slot_fine c.args.book.now c.args.action.now c.requires c.used-slot-items.result.now c.used-slot-items.ensures c.loop-slot.slot-index _ c.loop-slot-test.true).value
+pub both_reads-set-requires : goal.both_reads-set-requires
+both_reads-set-requires c =
+    subst Small (sym c.code_of.ensures) (slot_fine c.args.book.now c.args.action.now c.requires c.used-slot-items.result.now c.used-slot-items.ensures c.loop-slot.slot-index _ c.loop-slot-test.true).value
 
 pub loop-slot-preserved : goal.loop-slot-preserved
 loop-slot-preserved c =
@@ -26,7 +26,7 @@ loop-slot-preserved c =
     let t = c.args.target in
     let slot = get_or c.used-slot-items.result.now c.loop-slot.slot-index (record { target = 0; value = record { from = 0; size = 0 } }) in
     let added : c.if-from-target.set ≡ cond (eqb slot.target t) (meant.both_reads m (spanned code slot.value)) m = elim c.if-from-target.branch [
-      | then-from-target w ↦ w.set-is ∙ w.both-reads-set.ensures ∙ ap (λ bs. meant.both_reads m (decoded bs)) w.code-of.ensures ∙ sym (cond-true _ _ _ (eq-eqb slot.target t (sym c.from.ensures ∙ w.if-from-target.true)))
+      | then-from-target w ↦ w.set-is ∙ w.both_reads-set.ensures ∙ ap (λ bs. meant.both_reads m (decoded bs)) w.code_of.ensures ∙ sym (cond-true _ _ _ (eq-eqb slot.target t (sym c.from.ensures ∙ w.if-from-target.true)))
       | else-from-target w ↦ w.set-is ∙ sym (cond-false _ _ _ (ne_eqb slot.target t (λ e. w.if-from-target.false (c.from.ensures ∙ e))))
     ] in
     goes_on (folds t code) c.used-slot-items.result.now c.loop-slot.slot-index _ m _ _ c.loop-slot-test.true added c.loop-slot.invariant

@@ -43,8 +43,8 @@ now_small : (c : In-Some) → (small c.in-Some.instruction ≡ true) × Small c.
 unfolding every
 now_small c = and_parts (small c.in-Some.instruction) _ (sym (ap (every small) (spelt (now_took c))) ∙ c.loop-instruction.invariant.1)
 
-pub with-read-set-requires : goal.with-read-set-requires
-with-read-set-requires c = (now_small c).0
+pub with_read-set-requires : goal.with_read-set-requires
+with_read-set-requires c = (now_small c).0
 
 pub loop-instruction-preserved : goal.loop-instruction-preserved
 loop-instruction-preserved c =
@@ -53,7 +53,7 @@ loop-instruction-preserved c =
     let m = c.loop-instruction.set in
     let tail = decoded c.in-Some.tail.now in
     let first : reads_of s m (decoded c.loop-instruction.rest.now) ≡ reads_of s (read_of s m c.in-Some.instruction) tail = ap (reads_of s m) (spelt (now_took here)) ∙ reads_first s m c.in-Some.instruction tail in
-    (ap (λ n. reads_of s n tail) c.with-read-set.ensures ∙ sym first ∙ c.loop-instruction.invariant.0, (now_small here).1)
+    (ap (λ n. reads_of s n tail) c.with_read-set.ensures ∙ sym first ∙ c.loop-instruction.invariant.0, (now_small here).1)
 
 pub loop-instruction-smaller : goal.loop-instruction-smaller
 loop-instruction-smaller c = shorter (now_took (goal.at.loop-instruction-smaller c).In-Some)
@@ -62,4 +62,4 @@ pub returns : goal.returns
 returns c =
     let s = c.args.side in
     let m = c.loop-instruction.set in
-    sym (reads_none s m) ∙ sym (ap (reads_of s m) (ended c.loop-instruction.rest.now c.in-default.ensures)) ∙ c.loop-instruction.invariant.0
+    sym (reads_none s m) ∙ sym (ap (reads_of s m) (ended c.loop-instruction.rest.now c.in_default.ensures)) ∙ c.loop-instruction.invariant.0

@@ -6,7 +6,7 @@ use Rattle.verdict.proofs.gather.received.Goals as goal
 
 pub reads-condition-requires : goal.reads-condition-requires
 reads-condition-requires c =
-    subst Small (sym c.code-of.ensures) (condition_small c.args.book.now c.args.rule.now c.requires)
+    subst Small (sym c.code_of.ensures) (condition_small c.args.book.now c.args.rule.now c.requires)
 
 pub asked-requires : goal.asked-requires
 asked-requires c = tasks_right c.args.book.now c.args.rule.now c.requires

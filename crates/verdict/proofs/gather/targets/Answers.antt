@@ -12,13 +12,13 @@ folds : (code : List ℕ) → Folds (λ m (xs : List Slot). meant.set_by m (map 
 unfolding meant.set_by
 folds code = record { none = λ m. refl; more = λ m x xs. refl }
 
-pub with-member-set-requires : goal.with-member-set-requires
-with-member-set-requires c =
+pub with_member-set-requires : goal.with_member-set-requires
+with_member-set-requires c =
     (slot_fine c.args.book.now c.args.action.now c.requires c.used-slot-items.result.now c.used-slot-items.ensures c.loop-slot.slot-index _ c.loop-slot-test.true).target
 
 pub loop-slot-preserved : goal.loop-slot-preserved
 loop-slot-preserved c =
-    goes_on (folds (code_of c.args.book.now)) c.used-slot-items.result.now c.loop-slot.slot-index _ c.loop-slot.set _ _ c.loop-slot-test.true c.with-member-set.ensures c.loop-slot.invariant
+    goes_on (folds (code_of c.args.book.now)) c.used-slot-items.result.now c.loop-slot.slot-index _ c.loop-slot.set _ _ c.loop-slot-test.true c.with_member-set.ensures c.loop-slot.invariant
 
 pub returns : goal.returns
 returns c =

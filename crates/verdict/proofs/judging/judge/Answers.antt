@@ -1,5 +1,5 @@
 -- A draft that the verdict lets pass is sound, and the smallest book is so under every order.
-use Rattle.std.proofs.Common.{◌≡◌, ◌≤◌, true, false, cond, eqb, is_ok, is_err, Ok, sym, refl, ap, ◌∙◌, subst}
+use Rattle.std.proofs.Common.{◌≤◌, is_ok, sym, refl, ap, ◌∙◌, subst}
 use Rattle.std.proofs.lemmas.Bool.{eq-eqb, cond-true, cond-false}
 use Rattle.meaning.specs.Flow.{levelled}
 use Rattle.meaning.specs.Levels.{Order}
@@ -8,31 +8,31 @@ use Rattle.book.specs.Means.{means}
 use Rattle.verdict.specs.Verdicts.{judged, is_sound}
 use Rattle.verdict.proofs.Judged.{judged_empty, judged_levels, smallest_levelled, smallest_sound, not_refused, refused}
 use Rattle.verdict.proofs.judging.judge.Goals as goal
-use Rattle.verdict.proofs.judging.judge.Goals.{then-is-err, else-is-err}
+use Rattle.verdict.proofs.judging.judge.Goals.{then-is_err, else-is_err}
 
-pub invariant-of-result : goal.invariant-of-result
-invariant-of-result g c =
-    let o = scaled c.written-out-scale.result in
-    elim c.if-is-err.branch [
-      | then-is-err w ↦
+pub invariant_of-result : goal.invariant_of-result
+invariant_of-result g c =
+    let o = scaled c.written_out-scale.result in
+    elim c.if-is_err.branch [
+      | then-is_err w ↦
           let book = ap (λ d. means d.book) w.draft-is ∙ w.smallest-draft.ensures in
-          let some = subst (λ (x : Order). 1 ≤ x.count) (sym c.written-out-scale.ensures.ranks) (g.met.O.Order.lawful c.args.order).some in
-          (ap (levelled o) book ∙ smallest_levelled o some, (ap (is_sound o) book ∙ smallest_sound o, tt))
-      | else-is-err w ↦
+          let some = subst (λ (x : Order). 1 ≤ x.count) (sym c.written_out-scale.ensures.ranks) (g.met.O.Order.lawful c.args.order).some in
+          record { levelled = ap (levelled o) book ∙ smallest_levelled o some; sound = ap (is_sound o) book ∙ smallest_sound o }
+      | else-is_err w ↦
           let book = ap (λ d. means d.book) w.draft-is in
-          let passes = sym c.verdict.ensures ∙ not_refused c.verdict.result (sym c.is-err.ensures.value ∙ w.if-is-err.false) in
-          (ap (levelled o) book ∙ judged_levels o _ passes, (ap (is_sound o) book ∙ eq-eqb _ 0 (judged_empty o _ passes), tt))
+          let passes = sym c.verdict.ensures ∙ not_refused c.verdict.result (sym c.is_err.ensures.value ∙ w.if-is_err.false) in
+          record { levelled = ap (levelled o) book ∙ judged_levels o _ passes; sound = ap (is_sound o) book ∙ eq-eqb _ 0 (judged_empty o _ passes) }
     ]
 
 pub returns : goal.returns
 returns g c =
     let b = means c.args.draft.book in
-    let ranks = c.written-out-scale.ensures.ranks in
+    let ranks = c.written_out-scale.ensures.ranks in
     let answer = c.verdict.ensures ∙ ap (λ o. judged o b) ranks in
     record {
-      book = elim c.if-is-err.branch [
-        | then-is-err w ↦ ap (λ d. means d.book) w.draft-is ∙ w.smallest-draft.ensures ∙ sym (cond-false _ _ _ (ap is_ok (sym answer) ∙ refused c.verdict.result (sym c.is-err.ensures.value ∙ w.if-is-err.true)))
-        | else-is-err w ↦ ap (λ d. means d.book) w.draft-is ∙ sym (cond-true _ _ _ (ap is_ok (sym answer ∙ not_refused c.verdict.result (sym c.is-err.ensures.value ∙ w.if-is-err.false))))
+      book = elim c.if-is_err.branch [
+        | then-is_err w ↦ ap (λ d. means d.book) w.draft-is ∙ w.smallest-draft.ensures ∙ sym (cond-false _ _ _ (ap is_ok (sym answer) ∙ refused c.verdict.result (sym c.is_err.ensures.value ∙ w.if-is_err.true)))
+        | else-is_err w ↦ ap (λ d. means d.book) w.draft-is ∙ sym (cond-true _ _ _ (ap is_ok (sym answer ∙ not_refused c.verdict.result (sym c.is_err.ensures.value ∙ w.if-is_err.false))))
       ];
       order = refl;
       scale = ranks;

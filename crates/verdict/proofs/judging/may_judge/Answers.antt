@@ -7,4 +7,4 @@ use Rattle.verdict.proofs.judging.may_judge.Goals as goal
 
 pub returns : goal.returns
 returns g c =
-    judgement _ (means c.args.draft.now.book) c.verdict.result c.args.draft.now.right.1.0 (c.verdict.ensures ∙ ap (λ o. judged o (means c.args.draft.now.book)) c.written-out.ensures.ranks)
+    judgement _ (means c.args.draft.now.book) c.verdict.result c.args.draft.now.right.1.0 (c.verdict.ensures ∙ ap (λ o. judged o (means c.args.draft.now.book)) c.written_out.ensures.ranks)

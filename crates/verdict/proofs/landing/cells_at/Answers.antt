@@ -5,5 +5,5 @@ use Rattle.verdict.proofs.landing.cells_at.Goals as goal
 
 pub returns-else-device-cells : goal.returns-else-device-cells
 returns-else-device-cells c =
-    let past : length c.used-cells-cells.result.now ≤ c.args.device = omega arith in
-    sym (ap (λ cells. get_or cells c.args.device 0) (sym c.used-cells-cells.ensures) ∙ get_or_past c.used-cells-cells.result.now c.args.device 0 past)
+    let past : length c.used_cells-cells.result.now ≤ c.args.device = omega arith in
+    sym (ap (λ cells. get_or cells c.args.device 0) (sym c.used_cells-cells.ensures) ∙ get_or_past c.used_cells-cells.result.now c.args.device 0 past)

@@ -15,7 +15,7 @@ returns-else-received-cells c =
     let d = c.args.device in
     let room = within (meant.received rule) (cells_of (means c.args.book.now) d) in
     let more = not (eqb rule.carriers (2 ^ d)) in
-    let same : eqb (bit_and c.args.received c.cells-at-cells.result) c.args.received ≡ room = λ i. eqb (bit_and (c.requires.1 i) (c.cells-at-cells.ensures i)) (c.requires.1 i) in
-    let none = ne_eqb (bit_and c.args.received c.cells-at-cells.result) c.args.received c.if-received-cells.false in
+    let same : eqb (bit_and c.args.received c.cells_at-cells.result) c.args.received ≡ room = λ i. eqb (bit_and (c.requires.1 i) (c.cells_at-cells.ensures i)) (c.requires.1 i) in
+    let none = ne_eqb (bit_and c.args.received c.cells_at-cells.result) c.args.received c.if-received-cells.false in
     let remote : meant.lands (means c.args.book.now) rule (number c.args.part) d ≡ (room && more) = λ i. cond (eqb (number (c.in-Task-Remote.is-0 i)) 1 && is_remote (c.in-Task-Remote.is-1 i)) (room && more) (has rule.carriers d) in
     none ∙ sym (and_left room more (sym same ∙ none)) ∙ sym remote

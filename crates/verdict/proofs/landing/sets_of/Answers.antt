@@ -9,6 +9,6 @@ pub targets-targets-requires : goal.targets-targets-requires
 targets-targets-requires c =
     subst (RightAction c.args.book.now) (sym c.action.ensures) (action_right c.args.book.now c.args.rule.now c.requires.1 c.args.part)
 
-pub both-reads-requires : goal.both-reads-requires
-both-reads-requires c =
-    subst Small (sym c.code-of.ensures) (condition_small c.args.book.now c.args.rule.now c.requires.1)
+pub both_reads-requires : goal.both_reads-requires
+both_reads-requires c =
+    subst Small (sym c.code_of.ensures) (condition_small c.args.book.now c.args.rule.now c.requires.1)

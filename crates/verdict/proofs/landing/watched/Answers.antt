@@ -12,7 +12,7 @@ use Rattle.verdict.specs.Sides.{Small}
 use Rattle.verdict.proofs.Folds.{Folds, goes_on, ends}
 use Rattle.verdict.proofs.Rightness.{FineClause, clause_fine}
 use Rattle.verdict.proofs.landing.watched.Goals as goal
-use Rattle.verdict.proofs.landing.watched.Goals.{After-code-of-code, then-reads-set-ne0+then-lands, else-reads-set-ne0, else-reads-set-ne0-via-then-reads-set-ne0+else-lands, else-reads-set-ne0-via-else-reads-set-ne0}
+use Rattle.verdict.proofs.landing.watched.Goals.{After-code_of-code, then-reads-set-ne0+then-lands, else-reads-set-ne0, else-reads-set-ne0-via-then-reads-set-ne0+else-lands, else-reads-set-ne0-via-else-reads-set-ne0}
 
 folds : (b : book.Book) (r : book.Rule) (p : ℕ) (code : List ℕ) → Folds (λ m (xs : List Clause). meant.watched b r p m (map (clause_means code) xs)) (λ m x. cond (meant.watches b r p (clause_means code x)) (reads m (spanned code x.test)) m)
 unfolding meant.watched
@@ -30,23 +30,23 @@ module _ (x y : ℕ) (t : Bool) (n m all : ℕ) (e : x ≡ y) where
   elsewhere not-here is = is ∙ sym (cond-false _ n m (and_right _ t (sym not-here)))
 
 -- the clause of this turn
-abbrev clause : After-code-of-code → Clause
-clause c = get_or c.used-clauses-clause-items.result.now c.loop-clause.clause-index (record { device = 0; test = record { from = 0; size = 0 } })
+abbrev clause : After-code_of-code → Clause
+clause c = get_or c.used_clauses-clause-items.result.now c.loop-clause.clause-index (record { device = 0; test = record { from = 0; size = 0 } })
 
-fine : (c : After-code-of-code) → FineClause (code_of c.args.book.now) (clause c)
-fine c = clause_fine c.args.book.now c.requires.0 c.used-clauses-clause-items.result.now c.used-clauses-clause-items.ensures c.loop-clause.clause-index _ c.loop-clause-test.true
+fine : (c : After-code_of-code) → FineClause (code_of c.args.book.now) (clause c)
+fine c = clause_fine c.args.book.now c.requires.0 c.used_clauses-clause-items.result.now c.used_clauses-clause-items.ensures c.loop-clause.clause-index _ c.loop-clause-test.true
 
-test_small : (c : After-code-of-code) → Small c.code-of-code.result.now
-test_small c = subst Small (sym c.code-of-code.ensures) (fine c).test
+test_small : (c : After-code_of-code) → Small c.code_of-code.result.now
+test_small c = subst Small (sym c.code_of-code.ensures) (fine c).test
 
 pub reads-requires : goal.reads-requires
 reads-requires c = test_small c
 
 pub lands-requires : goal.lands-requires
-lands-requires c = ((fine (goal.at.lands-requires c).After-code-of-code).device, c.received-received.ensures)
+lands-requires c = ((fine (goal.at.lands-requires c).After-code_of-code).device, c.received-received.ensures)
 
 pub reads-all-requires : goal.reads-all-requires
-reads-all-requires c = test_small (goal.at.reads-all-requires c).After-code-of-code
+reads-all-requires c = test_small (goal.at.reads-all-requires c).After-code_of-code
 
 pub loop-clause-preserved : goal.loop-clause-preserved
 loop-clause-preserved c =
@@ -55,18 +55,18 @@ loop-clause-preserved c =
     let r = rule_means code c.args.rule.now in
     let p = number c.args.part in
     let m = c.loop-clause.all in
-    let x = clause_means code (clause (goal.at.loop-clause-preserved c).After-code-of-code) in
+    let x = clause_means code (clause (goal.at.loop-clause-preserved c).After-code_of-code) in
     let common = bit_and (reads 0 x.test) (meant.set_by 0 (meant.slots_of r p)) in
-    let same : bit_and c.reads.result c.args.set ≡ common = λ i. bit_and ((c.reads.ensures ∙ ap (λ bs. reads 0 (decoded bs)) c.code-of-code.ensures) i) (c.requires.1.1 i) in
+    let same : bit_and c.reads.result c.args.set ≡ common = λ i. bit_and ((c.reads.ensures ∙ ap (λ bs. reads 0 (decoded bs)) c.code_of-code.ensures) i) (c.requires.1.1 i) in
     let there = meant.lands b r p x.device in
     let added : c.if-reads-set-ne0.all ≡ cond (not (eqb common 0) && there) (reads m x.test) m = elim c.if-reads-set-ne0.branch [
-      | then-reads-set-ne0+then-lands w ↦ adds _ common there _ m _ same w.if-reads-set-ne0.true w.if-lands.ensures (w.all-is ∙ w.reads-all.ensures ∙ ap (λ bs. reads m (decoded bs)) c.code-of-code.ensures)
+      | then-reads-set-ne0+then-lands w ↦ adds _ common there _ m _ same w.if-reads-set-ne0.true w.if-lands.ensures (w.all-is ∙ w.reads-all.ensures ∙ ap (λ bs. reads m (decoded bs)) c.code_of-code.ensures)
       | else-reads-set-ne0 w ↦ elim w.else-reads-set-ne0.branch [
         | else-reads-set-ne0-via-then-reads-set-ne0+else-lands v ↦ elsewhere _ common there _ m _ same v.if-lands.ensures w.all-is
         | else-reads-set-ne0-via-else-reads-set-ne0 v ↦ apart _ common there _ m _ same v.if-reads-set-ne0.false w.all-is
       ]
     ] in
-    goes_on (folds b r p code) c.used-clauses-clause-items.result.now c.loop-clause.clause-index _ m _ _ c.loop-clause-test.true added c.loop-clause.invariant
+    goes_on (folds b r p code) c.used_clauses-clause-items.result.now c.loop-clause.clause-index _ m _ _ c.loop-clause-test.true added c.loop-clause.invariant
 
 pub returns : goal.returns
 returns c =
@@ -74,5 +74,5 @@ returns c =
     let code = code_of c.args.book.now in
     let r = rule_means code c.args.rule.now in
     let p = number c.args.part in
-    ends (folds b r p code) c.used-clauses-clause-items.result.now c.loop-clause.clause-index _ _ c.loop-clause-test.false c.loop-clause.invariant
-    ∙ ap (λ xs. meant.watched b r p 0 (map (clause_means code) xs)) c.used-clauses-clause-items.ensures
+    ends (folds b r p code) c.used_clauses-clause-items.result.now c.loop-clause.clause-index _ _ c.loop-clause-test.false c.loop-clause.invariant
+    ∙ ap (λ xs. meant.watched b r p 0 (map (clause_means code) xs)) c.used_clauses-clause-items.ensures

@@ -15,7 +15,7 @@ pub reads-set-requires : goal.reads-set-requires
 reads-set-requires c =
     let right = c.requires.1.1.1.0 in
     let b = means c.args.book.now in
-    subst Small (sym c.code-of.ensures) (right_small (record { resources = resources b; receiver = false }) right.few _ (and_parts (ltb c.args.clause.now.device (devices b)) _ right.right).1)
+    subst Small (sym c.code_of.ensures) (right_small (record { resources = resources b; receiver = false }) right.few _ (and_parts (ltb c.args.clause.now.device (devices b)) _ right.right).1)
 
 pub returns : goal.returns
 returns c =
@@ -24,8 +24,8 @@ returns c =
     let clause = clause_means code c.args.clause.now in
     let counted = c.requires.1.1.1.1 in
     let set = c.reads-set.result in
-    let read : set ≡ reads 0 clause.test = c.reads-set.ensures ∙ ap (λ bs. reads 0 (decoded bs)) c.code-of.ensures in
+    let read : set ≡ reads 0 clause.test = c.reads-set.ensures ∙ ap (λ bs. reads 0 (decoded bs)) c.code_of.ensures in
     record {
-      put = put_same (clause_row (scaled c.args.scale.now) b c.args.number clause set counted.inside counted.is c.requires.1.1.1.0.few read) c.put-row.ensures.put;
-      bound = c.put-row.ensures.bound;
+      put = put_same (clause_row (scaled c.args.scale.now) b c.args.number clause set counted.inside counted.is c.requires.1.1.1.0.few read) c.put_row.ensures.put;
+      bound = c.put_row.ensures.bound;
     }

@@ -13,6 +13,6 @@ unfolding flow_list
 returns c =
     let b = means c.args.book.now in
     record {
-      put = put-append (forbidden (scaled c.args.scale.now) b) (flat_map (of_rule b) (range_with_len 0 (length b.rules))) (flat_map (of_clause b) (range_with_len 0 (length b.clauses))) c.put-rules-at.ensures.put c.put-clauses.ensures.put;
-      bound = omega (arith, c.put-rules-at.ensures.bound, c.put-clauses.ensures.bound);
+      put = put-append (forbidden (scaled c.args.scale.now) b) (flat_map (of_rule b) (range_with_len 0 (length b.rules))) (flat_map (of_clause b) (range_with_len 0 (length b.clauses))) c.put_rules-at.ensures.put c.put_clauses.ensures.put;
+      bound = omega (arith, c.put_rules-at.ensures.bound, c.put_clauses.ensures.bound);
     }

@@ -34,8 +34,8 @@ returns c =
     let code = code_of c.args.book.now in
     let rule = rule_means code c.args.rule.now in
     let p = number c.args.part in
-    let sets = c.sets-of-sets.result in
-    let meant = c.sets-of-sets.ensures in
+    let sets = c.sets_of-sets.result in
+    let meant = c.sets_of-sets.ensures in
     let few : resources b ≤ 32 = c.requires.1.1.0.few in
     let part : PartOf b c.args.number rule p c.number.result sets.targets = record { inside = c.requires.1.1.1.inside; rule = c.requires.1.1.1.is; few = number_small c.args.part; part = c.number.ensures; ends = meant.targets } in
     let events = part_row_same o b part 1 sets.events (omega arith) (omega arith) few (λ _. meant.events) in
@@ -45,6 +45,6 @@ returns c =
     let test = forbidden o b in
     let kinds = of_kind b c.args.number p in
     record {
-      put = put_first test kinds 1 3 (put_same events c.put-row-at.ensures.put) (put_first test kinds 2 2 (put_same condition c.put-row-at-2.ensures.put) (put_first test kinds 3 1 (put_same values c.put-row-at-3.ensures.put) (put_first test kinds 4 0 (put_same watched c.put-row.ensures.put) (put_none _ _))));
-      bound = omega (arith, c.put-row-at.ensures.bound, c.put-row-at-2.ensures.bound, c.put-row-at-3.ensures.bound, c.put-row.ensures.bound);
+      put = put_first test kinds 1 3 (put_same events c.put_row-at.ensures.put) (put_first test kinds 2 2 (put_same condition c.put_row-at-2.ensures.put) (put_first test kinds 3 1 (put_same values c.put_row-at-3.ensures.put) (put_first test kinds 4 0 (put_same watched c.put_row.ensures.put) (put_none _ _))));
+      bound = omega (arith, c.put_row-at.ensures.bound, c.put_row-at-2.ensures.bound, c.put_row-at-3.ensures.bound, c.put_row.ensures.bound);
     }

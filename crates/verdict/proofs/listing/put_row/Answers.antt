@@ -27,7 +27,7 @@ loop-target-preserved c =
     elim c.if-targets-target-eq1.branch [
       | then-targets-target-eq1 w ↦
           let block = row_in o b c.args.targets sources row.rule row.part row.kind k (eq-eqb _ _ w.if-targets-target-eq1.true) in
-          (put_at w.out-is w.at-is (put_next test blocks k c.loop-target.invariant.0 (put_same block w.put-target-at.ensures.put)), omega (arith, w.put-target-at.ensures.bound, w.at-is))
+          (put_at w.out-is w.at-is (put_next test blocks k c.loop-target.invariant.0 (put_same block w.put_target-at.ensures.put)), omega (arith, w.put_target-at.ensures.bound, w.at-is))
       | else-targets-target-eq1 w ↦
           let block = row_out o b c.args.targets sources row.rule row.part row.kind k (ne_eqb _ _ w.if-targets-target-eq1.false) in
           (put_at w.out-is w.at-is (put_next test blocks k c.loop-target.invariant.0 (put_same block (put_none _ _))), omega (arith, w.at-is))
@@ -39,7 +39,7 @@ returns c =
     let b = means c.args.book.now in
     let sources : ℕ → ℕ = λ t. get_or c.args.sources.now t 0 in
     let row = c.args.row in
-    let few : length c.used-levels-target-end.result.now ≡ resources b = ap length c.used-levels-target-end.ensures in
+    let few : length c.used_levels-target-end.result.now ≡ resources b = ap length c.used_levels-target-end.ensures in
     let all : c.loop-target.target ≡ resources b = omega arith in
     record {
       put = put_same (ap (λ n. filter (in_row o b c.args.targets sources) (flat_map (to_target b row.rule row.part row.kind) (range_with_len 0 n))) all) c.loop-target.invariant.0;

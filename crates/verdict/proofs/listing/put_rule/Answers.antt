@@ -13,6 +13,6 @@ returns c =
     let test = forbidden (scaled c.args.scale.now) b in
     let parts = of_part b c.args.number in
     record {
-      put = put_first test parts 0 1 c.put-part-at.ensures.put (put_first test parts 1 0 c.put-part.ensures.put (put_none _ _));
-      bound = omega (arith, c.put-part-at.ensures.bound, c.put-part.ensures.bound);
+      put = put_first test parts 0 1 c.put_part-at.ensures.put (put_first test parts 1 0 c.put_part.ensures.put (put_none _ _));
+      bound = omega (arith, c.put_part-at.ensures.bound, c.put_part.ensures.bound);
     }

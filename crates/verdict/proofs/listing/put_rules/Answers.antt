@@ -12,27 +12,27 @@ use Rattle.verdict.proofs.listing.put_rules.Goals as goal
 pub loop-number-init : goal.loop-number-init
 loop-number-init c = (put_none c.args.out.now 0, omega arith)
 
-pub overflow-cast-number : goal.overflow-cast-number
-overflow-cast-number c =
+pub overflow_cast-number : goal.overflow_cast-number
+overflow_cast-number c =
     let book = c.args.book.now in
-    let long = same_length (rule_means (code_of book)) (take book.rule_count book.rules) _ c.used-rules-rule-items.ensures in
+    let long = same_length (rule_means (code_of book)) (take book.rule_count book.rules) _ c.used_rules-rule-items.ensures in
     record { fits = omega (arith, long, c.requires.1.0) }
 
-pub put-rule-at-requires : goal.put-rule-at-requires
-put-rule-at-requires c =
-    let at = rule_at c.args.book.now c.requires c.loop-number.number _ c.used-rules-rule-items.ensures _ c.loop-number-test.true in
+pub put_rule-at-requires : goal.put_rule-at-requires
+put_rule-at-requires c =
+    let at = rule_at c.args.book.now c.requires c.loop-number.number _ c.used_rules-rule-items.ensures _ c.loop-number-test.true in
     (omega (arith, at.1.inside, c.requires.1.0), (c.requires, at))
 
 pub loop-number-preserved : goal.loop-number-preserved
 loop-number-preserved c =
     let b = means c.args.book.now in
-    (put_next (forbidden (scaled c.args.scale.now) b) (of_rule b) c.loop-number.number c.loop-number.invariant.0 c.put-rule-at.ensures.put, omega (arith, c.put-rule-at.ensures.bound))
+    (put_next (forbidden (scaled c.args.scale.now) b) (of_rule b) c.loop-number.number c.loop-number.invariant.0 c.put_rule-at.ensures.put, omega (arith, c.put_rule-at.ensures.bound))
 
 pub returns : goal.returns
 returns c =
     let book = c.args.book.now in
     let b = means book in
-    let all : c.loop-number.number ≡ length b.rules = omega (arith, same_length (rule_means (code_of book)) (take book.rule_count book.rules) _ c.used-rules-rule-items.ensures) in
+    let all : c.loop-number.number ≡ length b.rules = omega (arith, same_length (rule_means (code_of book)) (take book.rule_count book.rules) _ c.used_rules-rule-items.ensures) in
     record {
       put = put_same (ap (λ n. filter (forbidden (scaled c.args.scale.now) b) (flat_map (of_rule b) (range_with_len 0 n))) all) c.loop-number.invariant.0;
       bound = omega (arith, all, c.requires.1.0);

@@ -21,7 +21,7 @@ loop-source-preserved c =
     let to : ℕ → Flow = flow c.args.row.rule c.args.row.part c.args.row.kind c.args.target in
     let test = leaks (scaled c.args.scale.now) (means c.args.book.now) c.args.sources in
     let k = c.loop-source.source in
-    let tested : test (to k) ≡ c.leaks.result = sym (c.leaks.ensures ∙ ap (λ ls. has c.args.sources k && not ((scaled c.args.scale.now).below (get_or ls k 0) (get_or ls c.args.target 0))) c.used-levels-levels.ensures) in
+    let tested : test (to k) ≡ c.leaks.result = sym (c.leaks.ensures ∙ ap (λ ls. has c.args.sources k && not ((scaled c.args.scale.now).below (get_or ls k 0) (get_or ls c.args.target 0))) c.used_levels-levels.ensures) in
     elim c.if-leaks.branch [
       | then-leaks w ↦ (put_at w.out-is w.at-is (put_same (kept_one test to k (tested ∙ w.if-leaks.true)) (put_both c.loop-source.invariant.0 w.put-at.ensures)), omega (arith, w.put-at.ensures.ends, w.at-is))
       | else-leaks w ↦ (put_at w.out-is w.at-is (put_same (kept_no test to k (tested ∙ w.if-leaks.false)) c.loop-source.invariant.0), omega (arith, w.at-is))
@@ -29,7 +29,7 @@ loop-source-preserved c =
 
 pub returns : goal.returns
 returns c =
-    let few : length c.used-levels-levels.result.now ≡ resources (means c.args.book.now) = ap length c.used-levels-levels.ensures in
+    let few : length c.used_levels-levels.result.now ≡ resources (means c.args.book.now) = ap length c.used_levels-levels.ensures in
     let all : c.loop-source.source ≡ resources (means c.args.book.now) = omega arith in
     record {
       put = put_same (ap (λ n. filter (leaks (scaled c.args.scale.now) (means c.args.book.now) c.args.sources) (map (flow c.args.row.rule c.args.row.part c.args.row.kind c.args.target) (range_with_len 0 n))) all) c.loop-source.invariant.0;
