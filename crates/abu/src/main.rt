@@ -1,4 +1,5 @@
 //! The command line of rule books.
+#![tactic(auto)]
 
 mod answer;
 mod command;

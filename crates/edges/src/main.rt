@@ -1,4 +1,5 @@
 //! Tests of limits and cases: a line for each group, and for each case that goes wrong.
+#![tactic(auto)]
 
 mod answer;
 mod builder;

@@ -1,12 +1,12 @@
 -- To see the same is an equivalence, and what is done alike to two lanes that look the same leaves them so. Assumes nothing.
-use Rattle.std.proofs.Common.{◌≡◌, ℕ, ◌+◌, ◌-◌, ◌<◌, ◌≤◌, min, Bool, true, false, cond, eqb, List, [], ◌∷◌, ◌++◌, map, length, get_or, take, drop, filter, sym, refl, ap, ◌∙◌, subst, ap₂, arith}
+use Rattle.std.proofs.Common.{◌≡◌, ℕ, ◌+◌, ◌-◌, ◌≤◌, min, Bool, true, false, cond, eqb, List, [], ◌∷◌, ◌++◌, map, length, get_or, take, sym, refl, ap, ◌∙◌, subst, ap₂, arith}
 use Rattle.std.specs.List.{flat_map, AllByRecursion as All}
 use Rattle.std.proofs.lemmas.List.{append-nil, map-append, length-map, take-map, drop-map, take_all, get_or-map}
 use Rattle.std.proofs.lemmas.Bool.{cond_both, both_ways, eqb-true}
 use Rattle.meaning.specs.Book.{Book}
 use Rattle.meaning.specs.Flow.{level}
 use Rattle.meaning.specs.Levels.{Order}
-use Rattle.runs.specs.Lane.{Lane, most_lost, room, let_in, accept, served, marked, seen_through, with_lane}
+use Rattle.runs.specs.Lane.{Lane, most_lost, room, let_in, accept, served, seen_through, with_lane}
 use Rattle.runs.specs.State.{State, with_table, with_lanes, head}
 use Rattle.runs.specs.Table.{Table}
 use Rattle.runs.specs.Update.{Update, no_update}

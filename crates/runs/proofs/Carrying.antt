@@ -1,22 +1,21 @@
 -- An update of a lane at or below k is carried out alike in two states that look the same, and one of another lane leaves what k sees.
 -- Assumes nothing.
-use Rattle.std.proofs.Common.{◌≡◌, ℕ, zero, suc, ◌+◌, ◌<◌, ◌≤◌, Bool, true, false, cond, not, ◌&&◌, eqb, List, [], ◌∷◌, ◌++◌, length, ℤ, is_some, Some, filter, sym, refl, ap, ◌∙◌, subst, ap₂, ⊎_elim, arith}
+use Rattle.std.proofs.Common.{◌≡◌, ℕ, zero, suc, ◌+◌, ◌<◌, ◌≤◌, Bool, true, false, cond, not, ◌&&◌, eqb, List, [], ◌∷◌, length, ℤ, is_some, Some, filter, sym, refl, ap, ◌∙◌, subst, ap₂, ⊎_elim, arith}
 use Rattle.std.specs.List.{AllByRecursion as All}
 use Rattle.std.proofs.ByRecursion.{All-weaker}
 use Rattle.std.proofs.lemmas.Bool.{and_parts, and_from, cases_Bool, both_ways, eqb-true, cond_both, cond-false}
-use Rattle.meaning.specs.Book.{Book, devices, resources}
+use Rattle.meaning.specs.Book.{Book, resources}
 use Rattle.meaning.specs.Expression.{reads, truth}
-use Rattle.meaning.specs.Flow.{level, share, lands, watches}
+use Rattle.meaning.specs.Flow.{level, share, lands}
 use Rattle.meaning.specs.Levels.{Order, Meets}
 use Rattle.meaning.specs.Sets.{has}
 use Rattle.runs.specs.Clauses.{holds, concerns, clause_at, first_where, failing}
 use Rattle.runs.specs.Lane.{served}
 use Rattle.runs.specs.Promises.{Accepted}
-use Rattle.runs.specs.State.{State, Turn, Service, with_table, still, discovered, differing, updated, blocked, carried_out, head, removed, turn, idle, one_more, serving}
+use Rattle.runs.specs.State.{State, Turn, Service, with_table, still, discovered, updated, blocked, carried_out, head, removed, turn, idle, one_more, serving}
 use Rattle.runs.specs.Table.{Table}
-use Rattle.runs.specs.declared.write.Write.{Write}
 use Rattle.runs.specs.Update.{Update, rule_at, slots_at, lane_of, writes, targets}
-use Rattle.runs.specs.View.{seen, shown}
+use Rattle.runs.specs.View.{seen}
 use Rattle.runs.proofs.Alike.{low, Same, same_refl, same_trans, table_same, lane_same, lane_beyond, served_seen, long_same, head_same}
 use Rattle.runs.proofs.Discovering.{discovered_same, discovered_beyond}
 use Rattle.runs.proofs.Downward.{clausal, clause_below, slots_there, lane_below}

@@ -4,14 +4,14 @@ use Rattle.std.proofs.Common.{◌≡◌, ℕ, ◌<◌, ◌≤◌, Bool, true, fa
 use lib.Bits.{and_zero_r}
 use Rattle.std.specs.List.{flat_map, AllByRecursion as All}
 use Rattle.std.proofs.ByRecursion.{All-weaker}
-use Rattle.std.proofs.lemmas.Bool.{cases_Bool, cases_eq, both_ways, eqb-true, eq-eqb, or_left, and_right, cond-false}
+use Rattle.std.proofs.lemmas.Bool.{cases_Bool, cases_eq, eqb-true, eq-eqb, or_left, and_right, cond-false}
 use Rattle.meaning.specs.Book.{Book, Slot, devices, resources}
-use Rattle.meaning.specs.Expression.{reads, asks, truth}
-use Rattle.meaning.specs.Flow.{level, both_reads, share}
+use Rattle.meaning.specs.Expression.{truth}
+use Rattle.meaning.specs.Flow.{level, both_reads}
 use Rattle.meaning.specs.Levels.{Order, Meets}
 use Rattle.meaning.specs.Sets.{has}
 use Rattle.runs.specs.Discovery.{Place, places, goes, form, formed, bound_for, settled}
-use Rattle.runs.specs.Lane.{Lane, most_lost, accept}
+use Rattle.runs.specs.Lane.{most_lost, accept}
 use Rattle.runs.specs.Promises.{Accepted}
 use Rattle.runs.specs.State.{State, discovered}
 use Rattle.runs.specs.Table.{Table, value_at}
@@ -20,9 +20,8 @@ use Rattle.runs.specs.Update.{Update, rule_at, slots_at, lane_of, assigned, eval
 use Rattle.runs.specs.View.{Seen, seen, shown}
 use Rattle.runs.proofs.Alike.{low, Same, accept_seen, accept_none, joined_same}
 use Rattle.runs.proofs.Downward.{Part, slots_there, condition_there, event_below, condition_below, value_below}
-use Rattle.runs.proofs.Each.{all_with}
 use Rattle.runs.proofs.Members.{share_same, none_has}
-use Rattle.runs.proofs.Orderly.{Proper, Placed, places_proper}
+use Rattle.runs.proofs.Orderly.{Placed, places_proper}
 use Rattle.runs.proofs.Sources.{Slotted}
 use Rattle.runs.proofs.Tables.{Agree, value_agree}
 use Rattle.runs.proofs.Values.{both_own, both_asked}

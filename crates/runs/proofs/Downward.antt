@@ -1,18 +1,18 @@
 -- The sources of a part are at or below its lane, and those of a target's value at or below the target: none of these flows is
 -- forbidden, and the lane is the greatest lower bound of the targets. Assumes nothing.
-use Rattle.std.proofs.Common.{◌≡◌, ℕ, zero, suc, ◌+◌, ◌-◌, ◌<◌, ◌≤◌, Bool, true, false, cond, not, ◌&&◌, ◌||◌, eqb, ltb, leb, List, [], ◌∷◌, length, get_or, sym, refl, ap, ◌∙◌, subst, ⊎_elim, arith}
+use Rattle.std.proofs.Common.{◌≡◌, ℕ, ◌+◌, ◌-◌, ◌<◌, ◌≤◌, true, ◌&&◌, ◌||◌, eqb, ltb, leb, List, [], ◌∷◌, length, refl, ap, ◌∙◌, ⊎_elim, arith}
 use Rattle.std.specs.List.{AllByRecursion as All}
-use Rattle.std.proofs.ByRecursion.{All-weaker, All-get_or}
-use Rattle.std.proofs.lemmas.Bool.{and_parts, and_from, or_left, or_right, cases_Bool, both_ways, not_from_false, ltb-true, lt-ltb, le-leb, leb-true, eq-eqb, cond_both}
-use Rattle.meaning.specs.Book.{Book, Slot, Rule, Clause, devices, resources}
+use Rattle.std.proofs.ByRecursion.{All-get_or}
+use Rattle.std.proofs.lemmas.Bool.{and_parts, and_from, or_left, or_right, cases_Bool, both_ways, not_from_false, ltb-true, lt-ltb, le-leb, cond_both}
+use Rattle.meaning.specs.Book.{Book, Slot, devices, resources}
 use Rattle.meaning.specs.Expression.{reads, asks, encoded_expression}
-use Rattle.meaning.specs.Flow.{Flow, level, both_reads, set_by, read_for, slots_of, lands, share, watches, watched, sources, part_flow, clause_flow, by_rule, by_clause, forbidden}
+use Rattle.meaning.specs.Flow.{Flow, level, both_reads, set_by, read_for, watches, watched, sources, clause_flow, by_rule, by_clause, forbidden}
 use Rattle.meaning.specs.FlowList.{flow}
 use Rattle.meaning.specs.Levels.{Order, Meets}
 use Rattle.meaning.specs.Sets.{has, under, some_under}
 use Rattle.meaning.specs.WellFormed.{right_action, right_rule, right_clause}
 use Rattle.meaning.proofs.Loops.{every_at}
-use Rattle.runs.specs.Clauses.{clause_at, concerns}
+use Rattle.runs.specs.Clauses.{clause_at}
 use Rattle.runs.specs.Promises.{Accepted}
 use Rattle.runs.specs.Update.{rule_at, slots_at, met, level_of, lane_of}
 use Rattle.runs.proofs.Each.{all_with}

@@ -1,12 +1,11 @@
 -- Every state that a run reaches is good: the host has the book's cells, every clause holds, and each lane is orderly. A call alters
 -- cells only by writes, which keep which cells there are, and only where no clause fails. Assumes nothing.
-use Rattle.std.proofs.Common.{◌≡◌, ℕ, zero, suc, ◌^◌, ◌<◌, ◌≤◌, Bool, true, false, cond, not, ◌&&◌, eqb, ltb, leb, List, [], ◌∷◌, length, ℤ, is_some, Some, None, Ok, Err, Option, sym, refl, ap, ◌∙◌, subst, arith}
+use Rattle.std.proofs.Common.{◌≡◌, ℕ, zero, suc, ◌^◌, ◌<◌, ◌≤◌, Bool, true, false, ◌&&◌, eqb, ltb, leb, List, [], ◌∷◌, length, ℤ, is_some, Some, None, Ok, Err, Option, sym, refl, ◌∙◌, subst, arith}
 use Rattle.std.specs.List.{AllByRecursion as All}
 use Rattle.std.proofs.ByRecursion.{All-get_or}
 use Rattle.std.proofs.lemmas.Bool.{and_parts, ltb-true, leb-true, cond_both, both_ways}
 use Rattle.fault.specs.declared.fault.Fault.{Fault}
 use Rattle.meaning.specs.Book.{Book, devices, resources, cells_of}
-use Rattle.meaning.specs.Checks.{require, bind}
 use Rattle.meaning.specs.Levels.{Order, Meets}
 use Rattle.meaning.specs.Reading.{Verdict}
 use Rattle.meaning.specs.Sets.{has}
@@ -15,9 +14,9 @@ use Rattle.runs.specs.Call.{Call, Input, Take, Apply, Cancel, PutBack, Serve, Wa
 use Rattle.runs.specs.Clauses.{all_hold, concerns, failing}
 use Rattle.runs.specs.Lane.{Lane, served, marked, with_lane}
 use Rattle.runs.specs.Promises.{Accepted, ran}
-use Rattle.runs.specs.State.{State, Turn, Service, with_table, with_lanes, discovered, differing, updated, blocked, carried_out, head, removed, turn, idle, one_more, serving, still}
-use Rattle.runs.specs.Step.{Outcome, answered, unless_refused, level_checked, cells_checked, none_failing, untaken, not_empty, ticket_checked, with_mark, input_checked, take_checked, spend_checked, serve_checked, report_checked, applied, step}
-use Rattle.runs.specs.Table.{Table, write, written}
+use Rattle.runs.specs.State.{State, Service, with_table, with_lanes, discovered, blocked, carried_out, head, removed, turn, idle, one_more, serving, still}
+use Rattle.runs.specs.Step.{Outcome, answered, unless_refused, level_checked, cells_checked, none_failing, untaken, with_mark, input_checked, take_checked, spend_checked, serve_checked, report_checked, applied, step}
+use Rattle.runs.specs.Table.{write, written}
 use Rattle.runs.specs.declared.write.Write.{Write}
 use Rattle.runs.specs.Update.{Update, no_update, slots_at, writes, targets}
 use Rattle.runs.specs.View.{Hosts, Started}

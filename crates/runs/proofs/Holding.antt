@@ -1,11 +1,11 @@
 -- A change can make false only the clauses that it concerns; if none of these fails, all hold afterwards. Assumes nothing.
-use Rattle.std.proofs.Common.{◌≡◌, ℕ, zero, suc, ◌+◌, ◌<◌, ◌≤◌, Bool, true, false, cond, not, ◌&&◌, eqb, List, [], ◌∷◌, length, Some, None, Option, sym, refl, ap, ◌∙◌, subst, ⊎_elim, arith}
+use Rattle.std.proofs.Common.{◌≡◌, ℕ, zero, suc, ◌+◌, ◌<◌, ◌≤◌, Bool, true, false, cond, not, ◌&&◌, eqb, List, length, Some, None, Option, sym, refl, ap, ◌∙◌, subst, ⊎_elim, arith}
 use Rattle.std.specs.List.{AllByRecursion as All}
 use Rattle.std.proofs.ByRecursion.{All-weaker}
 use Rattle.std.proofs.lemmas.Bool.{and_from, cases_Bool, cases_eq, both_ways, eq-eqb, not-false}
-use Rattle.meaning.specs.Book.{Book, devices}
+use Rattle.meaning.specs.Book.{Book}
 use Rattle.meaning.specs.Expression.{truth, reads}
-use Rattle.meaning.specs.Flow.{share, no_clause}
+use Rattle.meaning.specs.Flow.{no_clause}
 use Rattle.meaning.specs.Levels.{Order, Meets}
 use Rattle.meaning.specs.Sets.{has}
 use Rattle.meaning.proofs.Loops.{every_at}

@@ -1,17 +1,17 @@
 -- Lanes are lines: a call takes from the front of a lane exactly as many as its answer counts, and adds at its end. Two stretches of a
 -- run, one after the other, are one. Assumes nothing.
-use Rattle.std.proofs.Common.{◌≡◌, ℕ, zero, suc, ◌+◌, ◌-◌, ◌<◌, ◌≤◌, Bool, true, false, cond, eqb, List, [], ◌∷◌, ◌++◌, length, get_or, drop, Ok, Err, sym, refl, ap, ◌∙◌, subst, add-zero, arith}
+use Rattle.std.proofs.Common.{◌≡◌, ℕ, zero, suc, ◌+◌, ◌-◌, ◌≤◌, Bool, true, false, cond, eqb, List, [], ◌∷◌, ◌++◌, length, get_or, drop, Ok, Err, sym, refl, ap, ◌∙◌, subst, add-zero, arith}
 use Rattle.std.proofs.lemmas.List.{append-nil, append_assoc, length-append, length-drop, drop-append-le, drop-drop, get_or-drop}
 use Rattle.std.proofs.lemmas.Bool.{cond_both, eqb-true}
 use Rattle.fault.specs.declared.fault.Fault.{Fault}
 use Rattle.meaning.specs.Book.{Book}
 use Rattle.meaning.specs.Levels.{Order, Meets}
 use Rattle.meaning.specs.Reading.{Verdict}
-use Rattle.runs.specs.Call.{Call, Input, Take, Apply, Cancel, PutBack, Serve, Waiting, Report, Done}
-use Rattle.runs.specs.Discovery.{formed, settled, arrived}
-use Rattle.runs.specs.Lane.{Lane, served, marked, with_lane}
+use Rattle.runs.specs.Call.{Call, Input, Take, Apply, Cancel, PutBack, Serve, Waiting, Report}
+use Rattle.runs.specs.Discovery.{settled, arrived}
+use Rattle.runs.specs.Lane.{served, marked}
 use Rattle.runs.specs.Promises.{Accepted, Served, counted, gone, ran, arrivals, departures, ServiceInOrder}
-use Rattle.runs.specs.State.{State, Turn, Service, none, with_lanes, still, discovered, carried_out, head, removed, turn, blocked, idle, one_more, serving}
+use Rattle.runs.specs.State.{State, Turn, still, discovered, carried_out, head, removed, turn, blocked, idle, one_more, serving}
 use Rattle.runs.specs.Step.{Outcome, answered, level_checked, cells_checked, with_mark, input_checked, take_checked, spend_checked, serve_checked, report_checked, fate, applied, step}
 use Rattle.runs.specs.Update.{Update}
 use Rattle.runs.proofs.Good.{Good, by_verdict, by_waiting, out_by, turn_good, step_good, started_good, ran_good}

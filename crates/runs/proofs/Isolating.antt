@@ -1,9 +1,9 @@
 -- Isolation. A call beyond k leaves what k sees; a call within k, from two states that look the same, is answered alike and leaves
 -- them so. So running a list looks like running its calls within k alone. Assumes nothing.
-use Rattle.std.proofs.Common.{◌≡◌, ℕ, zero, suc, ◌+◌, ◌^◌, ◌<◌, ◌≤◌, Bool, true, false, cond, not, ◌&&◌, eqb, ltb, leb, List, [], ◌∷◌, ◌++◌, map, length, ℤ, is_some, Ok, Err, codes, decimal, sum, filter, Result, sym, refl, ap, ◌∙◌, subst, ap₂, ⊎_elim, arith}
-use Rattle.std.specs.List.{range_with_len, flat_map, AllByRecursion as All}
+use Rattle.std.proofs.Common.{◌≡◌, ℕ, zero, suc, ◌+◌, ◌^◌, ◌<◌, ◌≤◌, Bool, true, false, cond, not, ◌&&◌, eqb, ltb, leb, List, [], ◌∷◌, ◌++◌, length, ℤ, is_some, Ok, Err, codes, decimal, sum, filter, sym, refl, ap, ◌∙◌, subst, ap₂, ⊎_elim, arith}
+use Rattle.std.specs.List.{range_with_len, AllByRecursion as All}
 use Rattle.std.proofs.ByRecursion.{All-weaker, all_kept_by, kept_by_passes}
-use Rattle.std.proofs.lemmas.Bool.{and_parts, and_from, cases_Bool, cases_eq, both_ways, ltb-true, lt-ltb, eqb-true, cond-true, cond-false}
+use Rattle.std.proofs.lemmas.Bool.{and_parts, and_from, cases_Bool, both_ways, lt-ltb, cond-true, cond-false}
 use Rattle.fault.specs.declared.fault.Fault.{Fault}
 use Rattle.meaning.specs.Book.{Book, devices, resources, cells_of}
 use Rattle.meaning.specs.Checks.{require, bind, through}
@@ -13,16 +13,15 @@ use Rattle.meaning.specs.Levels.{Order, Meets}
 use Rattle.meaning.specs.Reading.{Verdict}
 use Rattle.meaning.specs.Sets.{has}
 use Rattle.runs.specs.Call.{Call, Input, Take, Apply, Cancel, PutBack, Serve, Waiting, Report, Ticket, Count, Text, Done}
-use Rattle.runs.specs.Clauses.{concerns, clause_at, failing}
+use Rattle.runs.specs.Clauses.{concerns, clause_at}
 use Rattle.runs.specs.Faults.{bad_argument, other_cells, absent_cell, false_by_input, empty_lane, ticket_out, bad_ticket}
 use Rattle.runs.specs.Lane.{marked}
 use Rattle.runs.specs.Promises.{Accepted, ran, told, Isolation}
 use Rattle.runs.specs.Report.{lanes_below, waiting_below, resources_below, line, cell_line, device_lines, lane_line, reported}
-use Rattle.runs.specs.State.{State, with_table, discovered, blocked, head, removed, turn, serving}
-use Rattle.runs.specs.Step.{Outcome, answered, unless_refused, most_served, level_checked, cell_checked, device_checked, cells_checked, none_failing, untaken, not_empty, ticket_checked, fits, with_mark, input_checked, take_checked, spend_checked, serve_checked, report_checked, fate, applied, step}
+use Rattle.runs.specs.State.{State, with_table, discovered, blocked, head, removed}
+use Rattle.runs.specs.Step.{Outcome, answered, unless_refused, most_served, level_checked, cell_checked, device_checked, cells_checked, none_failing, untaken, fits, with_mark, input_checked, take_checked, spend_checked, serve_checked, report_checked, fate, applied, step}
 use Rattle.runs.specs.Table.{Table, write}
-use Rattle.runs.specs.Update.{Update}
-use Rattle.runs.specs.View.{within_level, seen, shown, Hosts, SameView, Started}
+use Rattle.runs.specs.View.{within_level, Hosts}
 use Rattle.runs.proofs.Alike.{low, Same, same_refl, same_sym, same_trans, table_same, lane_same, lane_beyond, out_same, lost_same, long_same, joined_same, map_same}
 use Rattle.runs.proofs.Carrying.{failing_same, Carried, turned, serving_same, removed_same, removed_beyond, turn_beyond, serving_beyond}
 use Rattle.runs.proofs.Discovering.{discovered_same, discovered_beyond}

@@ -1,16 +1,16 @@
 -- What waits in a lane belongs there: discovery forms updates only where a part can land, and each goes to the lane of its part.
 -- Assumes nothing.
-use Rattle.std.proofs.Common.{◌≡◌, ℕ, ◌+◌, ◌<◌, ◌≤◌, Bool, true, false, cond, not, ◌&&◌, eqb, leb, List, [], ◌∷◌, ◌++◌, map, length, take, drop, filter, sym, refl, ap, ◌∙◌, subst, ⊎_elim, arith}
+use Rattle.std.proofs.Common.{◌≡◌, ℕ, ◌<◌, ◌≤◌, Bool, true, cond, not, ◌&&◌, eqb, leb, [], ◌∷◌, ◌++◌, map, length, filter, sym, refl, ◌∙◌, subst, arith}
 use Rattle.std.specs.List.{range_with_len, AllByRecursion as All}
-use Rattle.std.proofs.ByRecursion.{All-append, All-weaker, All-take, All-drop, All-map, all_kept_by, kept_by_passes}
+use Rattle.std.proofs.ByRecursion.{All-append, All-take, All-drop, All-map, all_kept_by, kept_by_passes}
 use Rattle.std.proofs.lemmas.List.{length-append}
-use Rattle.std.proofs.lemmas.Bool.{and_parts, both_ways, eqb-true, leb-true, cond-true, cond-false, cond_both}
-use Rattle.meaning.specs.Book.{Book, Rule, devices}
+use Rattle.std.proofs.lemmas.Bool.{and_parts, both_ways, eqb-true, leb-true, cond-false, cond_both}
+use Rattle.meaning.specs.Book.{Book, devices}
 use Rattle.meaning.specs.Flow.{lands}
 use Rattle.meaning.specs.Levels.{Meets}
 use Rattle.meaning.specs.Sets.{has}
 use Rattle.runs.specs.Discovery.{Place, place, default_places, receivers, task_places, places_of, places, goes, form, formed, bound_for, settled}
-use Rattle.runs.specs.Lane.{Lane, most_lost, let_in, accept, served, marked, with_lane}
+use Rattle.runs.specs.Lane.{Lane, most_lost, let_in, served, marked, with_lane}
 use Rattle.runs.specs.Table.{Table}
 use Rattle.runs.specs.Update.{Update, rule_at, lane_of}
 use Rattle.runs.proofs.Downward.{Part}

@@ -1,23 +1,17 @@
 -- In an accepted book whatever decides that a part acts, and how, is at or below each of its targets, hence at or below its lane: each
 -- such source is a flow, and no flow is forbidden. Assumes nothing.
-use Rattle.std.proofs.Common.{◌≡◌, ℕ, zero, suc, ◌+◌, ◌<◌, ◌≤◌, Bool, true, false, cond, not, ◌&&◌, ◌||◌, eqb, ltb, leb, List, [], ◌∷◌, length, get_or, sym, refl, ap, ◌∙◌, subst, ⊎_elim, arith}
+use Rattle.std.proofs.Common.{◌≡◌, ℕ, ◌<◌, true, cond, eqb, ltb, leb, List, [], ◌∷◌, length, refl, ap, ◌∙◌}
 use Rattle.std.specs.List.{AllByRecursion as All}
-use Rattle.std.proofs.ByRecursion.{All-weaker, All-get_or}
-use Rattle.std.proofs.lemmas.Bool.{and_parts, and_from, or_left, cases_Bool, both_ways, not_from_false, ltb-true, lt-ltb, le-leb, eq-eqb, cond-true, cond-false, cond_both}
-use Rattle.meaning.specs.Book.{Book, Slot, Rule, Clause, devices, resources}
+use Rattle.std.proofs.ByRecursion.{All-weaker}
+use Rattle.std.proofs.lemmas.Bool.{and_parts, ltb-true, eq-eqb, cond-true, cond_both}
+use Rattle.meaning.specs.Book.{Book, Slot, Rule, Clause}
 use Rattle.meaning.specs.Expression.{Expression, Scope, right, right_from, reads, asks}
-use Rattle.meaning.specs.Flow.{Flow, level, both_reads, set_by, read_for, slots_of, lands, share, watches, watched, sources, part_flow, clause_flow, barred, by_rule, by_clause, forbidden}
-use Rattle.meaning.specs.FlowList.{flow}
-use Rattle.meaning.specs.Levels.{Order, Meets}
-use Rattle.meaning.specs.Sets.{has, with_member, under}
-use Rattle.meaning.specs.WellFormed.{every, right_action, right_rule, right_clause}
-use Rattle.meaning.proofs.Loops.{every_at}
-use Rattle.runs.specs.Clauses.{clause_at}
-use Rattle.runs.specs.Promises.{Accepted}
-use Rattle.runs.specs.Update.{rule_at, slots_at, met, level_of, lane_of}
+use Rattle.meaning.specs.Flow.{both_reads, set_by, read_for, watches, watched}
+use Rattle.meaning.specs.Sets.{has, with_member}
+use Rattle.meaning.specs.WellFormed.{every, right_action}
 use Rattle.runs.proofs.Each.{every_all, all_with}
-use Rattle.runs.proofs.Members.{has_new, has_still, under_has}
-use Rattle.runs.proofs.Values.{Inside, reads_keep, reads_onto, both_keep, both_own, both_asked, reads_under, asks_under}
+use Rattle.runs.proofs.Members.{has_new, has_still}
+use Rattle.runs.proofs.Values.{Inside, reads_keep, reads_onto, both_keep, reads_under, asks_under}
 
 -- what an expression reads is there
 pub record Grounded (R : ℕ) (e : Expression) : Type 0 where

@@ -1,11 +1,9 @@
 -- Writing alters the cells that it names alone, and never which cells there are. Assumes nothing.
-use Rattle.std.proofs.Common.{◌≡◌, ℕ, ◌<◌, Bool, true, false, cond, not, ◌&&◌, ◌||◌, eqb, List, [], ◌∷◌, ℤ, is_some, Some, None, filter, Option, sym, refl, ap, ◌∙◌, subst, inl, inr, ⊎_elim}
+use Rattle.std.proofs.Common.{◌≡◌, ℕ, ◌<◌, Bool, true, false, cond, ◌&&◌, eqb, List, [], ◌∷◌, ℤ, is_some, Some, None, filter, Option, sym, refl, ap, ◌∙◌, subst}
 use Rattle.std.specs.List.{AllByRecursion as All}
-use Rattle.std.proofs.lemmas.Bool.{and_parts, cases_Bool, cases_eq, both_ways, eqb-true, ne_eqb, cond-true, cond-false, cond_both}
+use Rattle.std.proofs.lemmas.Bool.{and_parts, both_ways, eqb-true, cond_both}
 use Rattle.meaning.specs.Book.{Book, Slot, devices, resources}
 use Rattle.meaning.specs.Expression.{Expression, reads, asks, same}
-use Rattle.meaning.specs.Flow.{level}
-use Rattle.meaning.specs.Levels.{Order}
 use Rattle.meaning.specs.Sets.{has, with_member}
 use Rattle.runs.specs.State.{differing}
 use Rattle.runs.specs.Table.{Table, renewed, write, written, amount, cell, value_at}

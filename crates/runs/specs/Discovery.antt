@@ -1,5 +1,5 @@
 -- Discovery: which updates a change on a device forms, and where they go. Assumes nothing.
-use Rattle.std.specs.Prelude.{ℕ, Bool, true, false, cond, not, ◌&&◌, ◌||◌, List, [], ◌∷◌, ◌++◌, map, length, filter, ◌==◌, nat_eq, nat_le}
+use Rattle.std.specs.Prelude.{ℕ, Bool, cond, not, ◌&&◌, ◌||◌, List, [], ◌∷◌, ◌++◌, map, length, filter, ◌==◌, nat_eq, nat_le}
 use Rattle.std.specs.List.{range_with_len, flat_map}
 use Rattle.meaning.specs.Book.{Book, Rule, devices}
 use Rattle.meaning.specs.Expression.{truth}

@@ -1,6 +1,6 @@
 -- Lanes: lines of at most 16 that wait, with a count of those that found no room, and a mark that says that a ticket for the head is
 -- out. A lane is the same thing whatever waits in it. Assumes nothing.
-use Rattle.std.specs.Prelude.{ℕ, ◌+◌, ◌-◌, min, Bool, false, cond, List, [], ◌∷◌, ◌++◌, map, length, take, drop, ◌==◌}
+use Rattle.std.specs.Prelude.{ℕ, ◌+◌, ◌-◌, min, Bool, false, cond, List, [], ◌++◌, map, length, take, drop, ◌==◌}
 
 pub record Lane (U : Type 0) : Type 0 where
   pub waiting : List U

@@ -1,6 +1,6 @@
 -- The three promises, as laws over whole runs: for every lawful order with meets, every book that it accepts, every start and every
 -- list of calls, refused ones and tickets of any lane and run number among them. Assumes nothing.
-use Rattle.std.specs.Prelude.{◌≡◌, ℕ, ◌+◌, ◌-◌, ◌<◌, ◌≤◌, Bool, true, cond, List, [], ◌∷◌, ◌++◌, length, drop, Ok, Err, filter, ◌==◌, slice_index_or}
+use Rattle.std.specs.Prelude.{◌≡◌, ℕ, ◌+◌, ◌-◌, ◌≤◌, true, cond, List, [], ◌∷◌, ◌++◌, length, drop, Ok, Err, filter, ◌==◌, slice_index_or}
 use Rattle.meaning.specs.Book.{Book}
 use Rattle.meaning.specs.Flow.{levelled, Sound}
 use Rattle.meaning.specs.Levels.{Order, Lawful, Meets, Meeting}

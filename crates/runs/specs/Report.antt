@@ -1,5 +1,5 @@
 -- What a level may see of a run, counted or written out. Assumes nothing.
-use Rattle.std.specs.Prelude.{ℕ, Bool, cond, List, [], ◌∷◌, ◌++◌, map, length, ℤ, Some, None, codes, decimal, sum, filter, Option}
+use Rattle.std.specs.Prelude.{ℕ, List, [], ◌∷◌, ◌++◌, map, length, ℤ, Some, None, codes, decimal, sum, filter, Option}
 use Rattle.std.specs.List.{range_with_len, flat_map}
 use Rattle.std.specs.Fmt.{signed_decimal}
 use Rattle.meaning.specs.Book.{Book, devices, resources}

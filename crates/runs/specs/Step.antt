@@ -1,5 +1,5 @@
 -- One call: its refusals in their order, and else what it does and answers. Assumes nothing.
-use Rattle.std.specs.Prelude.{ℕ, ◌^◌, Bool, true, false, cond, not, ◌&&◌, List, [], ◌∷◌, length, ℤ, is_some, Some, None, Ok, Err, Option, ◌==◌, nat_le, nat_lt}
+use Rattle.std.specs.Prelude.{ℕ, ◌^◌, Bool, true, false, cond, not, ◌&&◌, List, length, ℤ, is_some, Some, None, Ok, Err, Option, ◌==◌, nat_le, nat_lt}
 use Rattle.fault.specs.declared.fault.Fault.{Fault}
 use Rattle.meaning.specs.Book.{Book, devices, resources, cells_of}
 use Rattle.meaning.specs.Checks.{require, bind, through}

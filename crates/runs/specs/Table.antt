@@ -1,5 +1,5 @@
 -- What a host holds: for each device and resource a value, or no cell. Assumes nothing.
-use Rattle.std.specs.Prelude.{ℕ, Bool, cond, ◌&&◌, List, [], ◌∷◌, ℤ, pos, Some, None, Option, ◌==◌}
+use Rattle.std.specs.Prelude.{ℕ, cond, ◌&&◌, List, [], ◌∷◌, ℤ, pos, Some, None, Option, ◌==◌}
 use Rattle.meaning.specs.Expression.{Expression, value}
 use Rattle.runs.specs.declared.write.Write.{Write}
 

@@ -1,5 +1,5 @@
 -- What a level sees of a run, and which calls are its own. Assumes nothing.
-use Rattle.std.specs.Prelude.{◌≡◌, ℕ, ◌<◌, ◌≤◌, Bool, true, ◌&&◌, List, [], is_some, filter, nat_lt}
+use Rattle.std.specs.Prelude.{◌≡◌, ℕ, ◌<◌, ◌≤◌, Bool, true, ◌&&◌, List, is_some, filter, nat_lt}
 use Rattle.meaning.specs.Book.{Book, devices, resources, cells_of}
 use Rattle.meaning.specs.Flow.{level}
 use Rattle.meaning.specs.Levels.{Order}

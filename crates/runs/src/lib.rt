@@ -1,4 +1,6 @@
 //! What a run of an accepted book means, call by call, and the three promises above that meaning.
+#![tactic(auto)]
+
 ghost use Rattle.runs.specs.Promises.{Promises};
 
 mod write;

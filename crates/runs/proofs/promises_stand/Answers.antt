@@ -1,5 +1,4 @@
 -- Each promise is proved in a file of its own.
-use Rattle.runs.specs.Promises.{ran}
 use Rattle.runs.proofs.Good.{ran_good, started_good}
 use Rattle.runs.proofs.InOrder.{in_order}
 use Rattle.runs.proofs.Isolating.{isolated}
