@@ -1,10 +1,10 @@
 -- Right code that is run from its front: each instruction finds its operands, and what is left gives of the stack what the whole gives of none. Assumes nothing.
-use Rattle.std.proofs.Common.{◌≡◌, ℕ, ◌≤◌, true, List, [], ◌∷◌, length, get_or, ℤ, pos, None, sym, refl, ap, ◌∙◌, subst, arith}
+use Rattle.std.proofs.Common.{◌≡◌, ℕ, ◌≤◌, true, List, [], length, get_or, ℤ, pos, None, sym, refl, ap, ◌∙◌, subst, arith}
 use Rattle.std.proofs.lemmas.List.{length-drop}
 use Rattle.std.proofs.lemmas.Bool.{and_parts, leb-true}
 use Rattle.meaning.specs.declared.instruction.Instruction.{Instruction}
 use Rattle.meaning.specs.declared.instruction.Instruction.TheVariants.{Constant, Own, Receiver, Apply}
-use Rattle.meaning.specs.Expression.{Expression, Scope, decoded, deepened, named, pops, right_from, pushed, stack_after, value}
+use Rattle.meaning.specs.Expression.{Scope, decoded, deepened, named, pops, right_from, pushed, stack_after, value}
 use Rattle.book.specs.Fronts.{taken}
 use Rattle.book.proofs.Walk.{Took, spelt, spells_nothing}
 use Rattle.evaluation.specs.Runnable.{Runnable}

@@ -1,4 +1,5 @@
 //! The value of an expression over a host's cells, and over changes that are not yet written.
+#![tactic(auto)]
 
 mod cells;
 mod changes;

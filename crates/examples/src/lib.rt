@@ -1,4 +1,6 @@
 //! Examples, each of them a theorem: values, flows and lanes, a leak by each kind of flow, and a run in which much happens.
+#![tactic(auto)]
+
 ghost use Rattle.examples.specs.Examples.{Examples};
 ghost use Rattle.examples.specs.Leaks.{Leaks};
 ghost use Rattle.examples.specs.Lively.{Lively};

@@ -1,4 +1,5 @@
 //! Lanes: updates that wait in line, level by level, in fixed memory.
+#![tactic(auto)]
 
 mod looking;
 mod queueing;

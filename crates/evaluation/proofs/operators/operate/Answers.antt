@@ -15,17 +15,17 @@ arm o k f a b r fa fb fits is clause e =
 pub returns-in-Add : goal.returns-in-Add
 unfolding operated
 returns-in-Add c =
-    arm _ Add (λ a b. clamped (a +ℤ b)) _ _ _ c.ranges.a c.ranges.b c.saturating-add.type_inv c.in-Add.is (λ _ _. refl) c.saturating-add.ensures
+    arm _ Add (λ a b. clamped (a +ℤ b)) _ _ _ c.ranges.a c.ranges.b c.saturating_add.type_inv c.in-Add.is (λ _ _. refl) c.saturating_add.ensures
 
 pub returns-in-Subtract : goal.returns-in-Subtract
 unfolding operated
 returns-in-Subtract c =
-    arm _ Subtract (λ a b. clamped (a -ℤ b)) _ _ _ c.ranges.a c.ranges.b c.saturating-sub.type_inv c.in-Subtract.is (λ _ _. refl) c.saturating-sub.ensures
+    arm _ Subtract (λ a b. clamped (a -ℤ b)) _ _ _ c.ranges.a c.ranges.b c.saturating_sub.type_inv c.in-Subtract.is (λ _ _. refl) c.saturating_sub.ensures
 
 pub returns-in-Multiply : goal.returns-in-Multiply
 unfolding operated
 returns-in-Multiply c =
-    arm _ Multiply (λ a b. clamped (a *ℤ b)) _ _ _ c.ranges.a c.ranges.b c.saturating-mul.type_inv c.in-Multiply.is (λ _ _. refl) c.saturating-mul.ensures
+    arm _ Multiply (λ a b. clamped (a *ℤ b)) _ _ _ c.ranges.a c.ranges.b c.saturating_mul.type_inv c.in-Multiply.is (λ _ _. refl) c.saturating_mul.ensures
 
 pub returns-in-Divide : goal.returns-in-Divide
 unfolding operated
@@ -35,37 +35,37 @@ returns-in-Divide c =
 pub returns-in-Less : goal.returns-in-Less
 unfolding operated
 returns-in-Less c =
-    arm _ Less (λ a b. from_truth (lt_z a b)) _ _ _ c.ranges.a c.ranges.b c.from-truth.type_inv c.in-Less.is (λ _ _. refl) c.from-truth.ensures
+    arm _ Less (λ a b. from_truth (lt_z a b)) _ _ _ c.ranges.a c.ranges.b c.from_truth.type_inv c.in-Less.is (λ _ _. refl) c.from_truth.ensures
 
 pub returns-in-AtMost : goal.returns-in-AtMost
 unfolding operated
 returns-in-AtMost c =
-    arm _ AtMost (λ a b. from_truth (le_z a b)) _ _ _ c.ranges.a c.ranges.b c.from-truth-in-AtMost.type_inv c.in-AtMost.is (λ _ _. refl) c.from-truth-in-AtMost.ensures
+    arm _ AtMost (λ a b. from_truth (le_z a b)) _ _ _ c.ranges.a c.ranges.b c.from_truth-in-AtMost.type_inv c.in-AtMost.is (λ _ _. refl) c.from_truth-in-AtMost.ensures
 
 pub returns-in-Equal : goal.returns-in-Equal
 unfolding operated
 returns-in-Equal c =
-    arm _ Equal (λ a b. from_truth (same a b)) _ _ _ c.ranges.a c.ranges.b c.from-truth-in-Equal.type_inv c.in-Equal.is (λ _ _. refl) (c.from-truth-in-Equal.ensures ∙ ap from_truth c.same.ensures)
+    arm _ Equal (λ a b. from_truth (same a b)) _ _ _ c.ranges.a c.ranges.b c.from_truth-in-Equal.type_inv c.in-Equal.is (λ _ _. refl) (c.from_truth-in-Equal.ensures ∙ ap from_truth c.same.ensures)
 
 pub returns-in-Unequal : goal.returns-in-Unequal
 unfolding operated
 returns-in-Unequal c =
-    arm _ Unequal (λ a b. from_truth (not (same a b))) _ _ _ c.ranges.a c.ranges.b c.from-truth-in-Unequal.type_inv c.in-Unequal.is (λ _ _. refl) (c.from-truth-in-Unequal.ensures ∙ ap (λ t. from_truth (not t)) c.same-in-Unequal.ensures)
+    arm _ Unequal (λ a b. from_truth (not (same a b))) _ _ _ c.ranges.a c.ranges.b c.from_truth-in-Unequal.type_inv c.in-Unequal.is (λ _ _. refl) (c.from_truth-in-Unequal.ensures ∙ ap (λ t. from_truth (not t)) c.same-in-Unequal.ensures)
 
 pub returns-in-And : goal.returns-in-And
 unfolding operated
 returns-in-And c =
-    arm _ And (λ a b. from_truth (truth a && truth b)) _ _ _ c.ranges.a c.ranges.b c.from-truth-in-And.type_inv c.in-And.is (λ _ _. refl) (c.from-truth-in-And.ensures ∙ ap from_truth c.both.ensures)
+    arm _ And (λ a b. from_truth (truth a && truth b)) _ _ _ c.ranges.a c.ranges.b c.from_truth-in-And.type_inv c.in-And.is (λ _ _. refl) (c.from_truth-in-And.ensures ∙ ap from_truth c.both.ensures)
 
 pub returns-in-Or : goal.returns-in-Or
 unfolding operated
 returns-in-Or c =
-    arm _ Or (λ a b. from_truth (truth a || truth b)) _ _ _ c.ranges.a c.ranges.b c.from-truth-in-Or.type_inv c.in-Or.is (λ _ _. refl) (c.from-truth-in-Or.ensures ∙ ap from_truth c.either.ensures)
+    arm _ Or (λ a b. from_truth (truth a || truth b)) _ _ _ c.ranges.a c.ranges.b c.from_truth-in-Or.type_inv c.in-Or.is (λ _ _. refl) (c.from_truth-in-Or.ensures ∙ ap from_truth c.either.ensures)
 
 pub returns-in-Not : goal.returns-in-Not
 unfolding operated
 returns-in-Not c =
-    arm _ Not (λ a b. from_truth (not (truth b))) _ _ _ c.ranges.a c.ranges.b c.from-truth-in-Not.type_inv c.in-Not.is (λ _ _. refl) (c.from-truth-in-Not.ensures ∙ ap (λ t. from_truth (not t)) c.truth.ensures)
+    arm _ Not (λ a b. from_truth (not (truth b))) _ _ _ c.ranges.a c.ranges.b c.from_truth-in-Not.type_inv c.in-Not.is (λ _ _. refl) (c.from_truth-in-Not.ensures ∙ ap (λ t. from_truth (not t)) c.truth.ensures)
 
 pub returns-in-Absolute : goal.returns-in-Absolute
 unfolding operated

@@ -27,5 +27,5 @@ loop-instruction-preserved g c =
 
 pub returns : goal.returns
 returns g c =
-    let fits : SFits w32 c.below-top.result = search rules in
-    to_z-of_z w32 c.below-top.result fits ∙ ends _ _ c.args.code.now c.loop-instruction.rest.now _ _ c.below-top.ensures c.in-default.ensures c.loop-instruction.invariant
+    let fits : SFits w32 c.below_top.result = search rules in
+    to_z-of_z w32 c.below_top.result fits ∙ ends _ _ c.args.code.now c.loop-instruction.rest.now _ _ c.below_top.ensures c.in_default.ensures c.loop-instruction.invariant

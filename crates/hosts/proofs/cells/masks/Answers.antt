@@ -18,6 +18,6 @@ zeros (suc n) (suc k) = zeros n k
 
 pub returns : goal.returns
 returns c d =
-    let n = length c.used-cells-cells.result.now - 0 in
-    padded c.copy-from-slice.new.self (drop n (replicate 16 0)) (λ k. get_or-drop n (replicate 16 0) k 0 ∙ zeros 16 (n + k)) d
-    ∙ ap (λ xs. get_or xs d 0) (c.copy-from-slice.ensures.after ∙ c.used-cells-cells.ensures)
+    let n = length c.used_cells-cells.result.now - 0 in
+    padded c.copy_from_slice.new.self (drop n (replicate 16 0)) (λ k. get_or-drop n (replicate 16 0) k 0 ∙ zeros 16 (n + k)) d
+    ∙ ap (λ xs. get_or xs d 0) (c.copy_from_slice.ensures.after ∙ c.used_cells-cells.ensures)

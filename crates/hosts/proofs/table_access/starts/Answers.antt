@@ -11,14 +11,14 @@ use Rattle.hosts.proofs.table_access.starts.Goals.{After-word}
 inside : (c : After-word) → c.word.result < 512
 inside c =
     let book = c.args.book.now in
-    let used = has_start _ _ _ (means book) c.requires.0 c.requires.1 (sym c.if-has-cell.ensures.value) in
+    let used = has_start _ _ _ (means book) c.requires.0 c.requires.1 (sym c.if-has_cell.ensures.value) in
     omega (arith, c.word.ensures, used, length-take book.cell_count book.starts)
 
 pub bounds-book-word : goal.bounds-book-word
 bounds-book-word c = inside (goal.at.bounds-book-word c).After-word
 
-pub offset-bounds-book-word : goal.offset-bounds-book-word
-offset-bounds-book-word c = record { fits = omega (arith, inside c) }
+pub offset_bounds-book-word : goal.offset_bounds-book-word
+offset_bounds-book-word c = record { fits = omega (arith, inside c) }
 
 pub returns : goal.returns
 returns c =

@@ -7,4 +7,4 @@ pub returns : goal.returns
 returns c =
     let s = c.args.self.now in
     let within : s.depth ≤ length s.items = search rules in
-    ap (λ n. reverse (take n s.items)) c.saturating-sub-self.ensures ∙ turned_less s.items s.depth c.args.count within
+    ap (λ n. reverse (take n s.items)) c.saturating_sub-self.ensures ∙ turned_less s.items s.depth c.args.count within

@@ -8,21 +8,21 @@ use Rattle.lanes.proofs.Stretches.{Written, line_other, line_put}
 use Rattle.lanes.proofs.Views.{view_long, one_changed}
 use Rattle.lanes.proofs.store.Lanes.arrive.Goals as goal
 
-pub returns-then-waiting-eq-LANE-LENGTH : goal.returns-then-waiting-eq-LANE-LENGTH
+pub returns-then-waiting-eq-LANE_LENGTH : goal.returns-then-waiting-eq-LANE_LENGTH
 unfolding view
-returns-then-waiting-eq-LANE-LENGTH c =
+returns-then-waiting-eq-LANE_LENGTH c =
     let s = c.args.self.now in
     let m = c.args.lane in
-    let new = c.one-more.result in
+    let new = c.one_more.result in
     let full = view_long s m (omega arith) in
-    let losses = get_or-set_same s.lost m new 0 (omega arith) ∙ c.one-more.ensures in
+    let losses = get_or-set_same s.lost m new 0 (omega arith) ∙ c.one_more.ensures in
     one_changed _ (view s) m _
     ((λ i. record { waiting = (view s m).waiting; lost = losses i; out = (view s m).out }) ∙ sym (accept_past (view s m) (update_means c.args.update) (omega (arith, full))))
     (λ n other i. record { waiting = (view s n).waiting; lost = get_or-set_other s.lost m n new 0 other i; out = (view s n).out })
 
-pub returns-else-waiting-eq-LANE-LENGTH : goal.returns-else-waiting-eq-LANE-LENGTH
+pub returns-else-waiting-eq-LANE_LENGTH : goal.returns-else-waiting-eq-LANE_LENGTH
 unfolding view
-returns-else-waiting-eq-LANE-LENGTH c =
+returns-else-waiting-eq-LANE_LENGTH c =
     let s = c.args.self.now in
     let m = c.args.lane in
     let u = c.args.update in

@@ -12,10 +12,10 @@ unfolding view
 returns c =
     let s = c.args.self.now in
     let m = c.args.lane in
-    let new = c.drop-head.new.stretch in
-    let count = c.saturating-sub.result in
+    let new = c.drop_head.new.stretch in
+    let count = c.saturating_sub.result in
     let write : Written s.store new s.waiting m (16 * m + 16 - 16 * m) = record { full = omega arith; inside = omega arith; counted = omega arith; long = omega arith } in
-    let left = line_rotated write count (s.short m) c.saturating-sub.ensures c.drop-head.ensures in
+    let left = line_rotated write count (s.short m) c.saturating_sub.ensures c.drop_head.ensures in
     let waits = ap (map update_means) left ∙ sym (drop-map update_means 1 (line s.store m (get_or s.waiting m 0))) in
     one_changed _ (view s) m _
     (λ i. record { waiting = waits i; lost = (view s m).lost; out = get_or-set_same s.out m false false (omega arith) i })
