@@ -1,5 +1,5 @@
 -- The first of some numbers that a test picks, by a loop over them. Assumes nothing.
-use Rattle.std.proofs.Common.{◌≡◌, ℕ, zero, suc, ◌+◌, ◌-◌, ◌<◌, ◌≤◌, Bool, true, false, cond, not, ◌&&◌, Some, None, Option, sym, refl, ap, ◌∙◌, arith}
+use Rattle.std.proofs.Common.{◌≡◌, ℕ, suc, ◌+◌, ◌-◌, ◌<◌, ◌≤◌, Bool, true, false, cond, not, ◌&&◌, Some, None, Option, sym, ap, ◌∙◌, arith}
 use Rattle.meaning.specs.Book.{Book, Clause}
 use Rattle.runs.specs.Clauses.{holds, clause_at, first_where}
 use Rattle.runs.specs.Table.{Table}

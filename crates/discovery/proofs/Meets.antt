@@ -1,8 +1,8 @@
 -- The meet of the members of a set, one after the other, is their greatest lower bound, and there is but one. Assumes nothing.
-use Rattle.std.proofs.Common.{◌≡◌, ℕ, ◌<◌, ◌≤◌, Bool, true, false, not, ◌&&◌, eqb, List, [], ◌∷◌, length, sym, refl, ap, ◌∙◌, subst, ⊎_elim, arith}
+use Rattle.std.proofs.Common.{◌≡◌, ℕ, ◌<◌, ◌≤◌, true, false, List, [], ◌∷◌, length, sym, refl, ap, ◌∙◌, subst, ⊎_elim, arith}
 use Rattle.std.specs.List.{AllByRecursion as All}
 use Rattle.std.proofs.ByRecursion.{All-weaker}
-use Rattle.std.proofs.lemmas.Bool.{and_cases, and_parts, cases_Bool, eqb-true, not-false, both_ways}
+use Rattle.std.proofs.lemmas.Bool.{and_cases, and_parts, eqb-true, not-false, both_ways}
 use Rattle.meaning.specs.Book.{Book, Slot, resources}
 use Rattle.meaning.specs.Flow.{level, set_by}
 use Rattle.meaning.specs.Levels.{Order, Lawful, Meets}

@@ -1,5 +1,5 @@
 -- The values of an action's assignments. Assumes nothing.
-use Rattle.std.proofs.Common.{◌≡◌, ℕ, ◌<◌, ◌≤◌, Bool, true, not, eqb, leb, List, map, length, get_or, take, ℤ, pos, sym, refl, ap, ◌∙◌, arith}
+use Rattle.std.proofs.Common.{◌≡◌, ℕ, ◌<◌, ◌≤◌, true, not, eqb, leb, List, map, length, get_or, take, ℤ, pos, sym, refl, ap, ◌∙◌, arith}
 use Rattle.std.proofs.lemmas.List.{ext_get_or, length-take-le, length-map, get_or-take, get_or-map}
 use Rattle.std.proofs.lemmas.Bool.{and_parts}
 use Rattle.std.proofs.lemmas.Bool.Decides.{nat_tests}
@@ -10,11 +10,13 @@ use Rattle.book.specs.declared.rule.Rule.{Rule}
 use Rattle.book.specs.declared.rule.Slot.{Slot}
 use Rattle.book.specs.Means.{code_of, slot_means, action_means, rule_means, means}
 use Rattle.book.specs.Parts.{number, action_of}
-use Rattle.meaning.specs.Expression.{Expression, Scope, right, right_from, decoded}
+use Rattle.meaning.specs.Expression.{Scope, right, right_from, decoded}
 use Rattle.meaning.specs.Flow.{slots_of}
 use Rattle.runs.specs.Update.{rule_at}
-use Rattle.verdict.specs.Rights.{Numbered}
+use Rattle.verdict.specs.declared.part.Part.TheVariants as variants
+use Rattle.verdict.specs.Rights.{RightAction, RightRule, Numbered}
 use Rattle.verdict.proofs.Numbering.{same_length}
+use Rattle.verdict.proofs.Rightness.{action_right}
 use Rattle.evaluation.specs.Runnable.{Runnable}
 
 abbrev pub no_slot : Slot
@@ -35,6 +37,11 @@ taken_values f slots values room each =
 pub part_slots : (code : List ℕ) (r : Rule) (p : Part) → slots_of (rule_means code r) (number p) ≡ action_means code (action_of r p)
 part_slots code r Default = refl
 part_slots code r Task = refl
+
+-- each action of a right rule is right
+pub part_right : (b : Book) (r : Rule) → RightRule b r → (p : Part) → RightAction b (action_of r p)
+part_right b r h Default = action_right b r h variants.Default
+part_right b r h Task = action_right b r h variants.Task
 
 some_test : (n : ℕ) → leb 1 n ≡ not (eqb n 0)
 some_test n = grind (arith, nat_tests)

@@ -1,5 +1,5 @@
 -- The updates that a change forms, rule by rule and part by part. Assumes nothing.
-use Rattle.std.specs.Prelude.{ℕ, Bool, cond, not, ◌&&◌, List, [], ◌∷◌, ◌++◌, map, length, ◌==◌, nat_le}
+use Rattle.std.specs.Prelude.{ℕ, cond, not, ◌&&◌, List, [], ◌∷◌, ◌++◌, length, ◌==◌, nat_le}
 use Rattle.std.specs.List.{range_with_len, flat_map}
 use Rattle.meaning.specs.Book.{Book, devices}
 use Rattle.meaning.specs.Expression.{truth}

@@ -23,7 +23,7 @@ use book::{Action, Book, Kind, Part, Rule};
 use evaluation::{Changes, evaluate, holds};
 use hosts::Host;
 use lanes::{Lanes, Update};
-use verdict::lands;
+use verdict::{self, lands};
 
 /// The most assignments of an action.
 const SLOTS: usize = 4;
@@ -152,7 +152,7 @@ fn reaches(book: &Book, rule: &Rule, received: u32, device: u8, receiver: u8) ->
     requires { (receiver < 16) × (received ≡ flow.received (rule_means (code_of book.now) rule.now)) }
     ensures { result ≡ (not (receiver == device) && flow.lands (means book.now) (rule_means (code_of book.now) rule.now) 1 receiver) }
 {
-    receiver != device && lands(book, rule, Part::Task, received, receiver)
+    receiver != device && lands(book, rule, verdict::Part::Task, received, receiver)
 }
 
 /// What a remote rule's task forms for a receiver, if that is another device where the task can land.

@@ -1,4 +1,5 @@
 //! What a change on a device leads to: which clauses it concerns, and which updates it forms.
+#![tactic(auto)]
 
 mod clauses;
 mod comparing;

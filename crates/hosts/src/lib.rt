@@ -1,4 +1,5 @@
 //! Hosts: what holds the cells of the devices.
+#![tactic(auto)]
 
 mod cells;
 mod host;

@@ -31,7 +31,7 @@ fn with_read(set: u32, instruction: Instruction, side: Side) -> u32
 }
 
 /// The cells of one side that some code reads, beside the members of `set`.
-pub(crate) fn reads(set: u32, code: &[u8], side: Side) -> u32
+pub fn reads(set: u32, code: &[u8], side: Side) -> u32
     requires { Small code.now }
     ensures { result ≡ reads_of side set (decoded code.now) }
 {
@@ -53,7 +53,7 @@ pub(crate) fn both_reads(set: u32, code: &[u8]) -> u32
 }
 
 /// The targets of an action, beside the members of `set`.
-pub(crate) fn targets(book: &Book, set: u32, action: &Action) -> u32
+pub fn targets(book: &Book, set: u32, action: &Action) -> u32
     requires { RightAction book.now action.now }
     ensures { result ≡ meant.set_by set (action_means (code_of book.now) action.now) }
 {
@@ -91,7 +91,7 @@ pub(crate) fn read_for(book: &Book, target: usize, action: &Action) -> u32
 }
 
 /// The cells that a remote task or its condition reads or sets as the receiver's.
-pub(crate) fn received(book: &Book, rule: &Rule) -> u32
+pub fn received(book: &Book, rule: &Rule) -> u32
     requires { RightRule book.now rule.now }
     ensures { result ≡ meant.received (rule_means (code_of book.now) rule.now) }
 {

@@ -49,7 +49,7 @@ fn cells_at(book: &Book, device: u8) -> u32
 }
 
 /// Whether a part can land on a device. `received` is what a remote task needs of its receiver.
-fn lands(book: &Book, rule: &Rule, part: Part, received: u32, device: u8) -> bool
+pub fn lands(book: &Book, rule: &Rule, part: Part, received: u32, device: u8) -> bool
     requires { (device < 16) × (received ≡ meant.received (rule_means (code_of book.now) rule.now)) }
     ensures { result ≡ meant.lands (means book.now) (rule_means (code_of book.now) rule.now) (parts.number part) device }
 {

@@ -13,4 +13,8 @@ mod row;
 mod side;
 
 pub use accepted::Accepted;
+pub use gather::{reads, received, targets};
 pub use judging::{flows, judge, may_judge};
+pub use landing::lands;
+pub use part::Part;
+pub use side::Side;

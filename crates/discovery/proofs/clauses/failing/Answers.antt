@@ -11,7 +11,6 @@ use Rattle.runs.specs.Clauses.{holds, concerns}
 use Rattle.runs.specs.Table.{Table}
 use Rattle.verdict.specs.Rights.{Counted}
 use Rattle.verdict.proofs.Numbering.{same_length, clause_at}
-use Rattle.discovery.specs.Plans.{Ready}
 use Rattle.discovery.proofs.Firsts.{fails, found, passed_over, none_left}
 use Rattle.discovery.proofs.clauses.failing.Goals as goal
 
@@ -30,38 +29,38 @@ tested b T d set k m x r at is e =
 
 pub bounds-plan-number : goal.bounds-plan-number
 bounds-plan-number g c =
-    (numbered c.args.book.now _ c.loop-number.number c.requires.0 c.used-clauses-clause-items.ensures c.loop-number-test.true).1
+    (numbered c.args.book.now _ c.loop-number.number c.requires.0 c.used_clauses-clause-items.ensures c.loop-number-test.true).1
 
-pub overflow-cast-result : goal.overflow-cast-result
-overflow-cast-result g c =
-    record { fits = omega (arith, (numbered c.args.book.now _ c.loop-number.number c.requires.0 c.used-clauses-clause-items.ensures c.loop-number-test.true).1) }
+pub overflow_cast-result : goal.overflow_cast-result
+overflow_cast-result g c =
+    record { fits = omega (arith, (numbered c.args.book.now _ c.loop-number.number c.requires.0 c.used_clauses-clause-items.ensures c.loop-number-test.true).1) }
 
-pub is-broken-requires : goal.is-broken-requires
-is-broken-requires g c =
-    (clause_at c.args.book.now c.requires.0 c.loop-number.number _ c.used-clauses-clause-items.ensures _ c.loop-number-test.true).0
+pub is_broken-requires : goal.is_broken-requires
+is_broken-requires g c =
+    (clause_at c.args.book.now c.requires.0 c.loop-number.number _ c.used_clauses-clause-items.ensures _ c.loop-number-test.true).0
 
-pub returns-then-is-broken : goal.returns-then-is-broken
-returns-then-is-broken g c =
+pub returns-then-is_broken : goal.returns-then-is_broken
+returns-then-is_broken g c =
     let b = c.args.book.now in
     let T = posted c.args.changes.now (g.H.Host.table c.args.host.now) in
     let k = c.loop-number.number in
-    let inside = (numbered b _ k c.requires.0 c.used-clauses-clause-items.ensures c.loop-number-test.true).0 in
-    let at = (clause_at b c.requires.0 k _ c.used-clauses-clause-items.ensures _ c.loop-number-test.true).1 in
-    let it = tested b T c.args.device c.args.set k _ _ c.is-broken.result at (c.requires.1.1 k inside) c.is-broken.ensures in
-    found (fails (means b) T (concerns c.args.device c.args.set)) (length (means b).clauses) k _ inside (sym it ∙ c.if-is-broken.true) c.loop-number.invariant
+    let inside = (numbered b _ k c.requires.0 c.used_clauses-clause-items.ensures c.loop-number-test.true).0 in
+    let at = (clause_at b c.requires.0 k _ c.used_clauses-clause-items.ensures _ c.loop-number-test.true).1 in
+    let it = tested b T c.args.device c.args.set k _ _ c.is_broken.result at (c.requires.1.1 k inside) c.is_broken.ensures in
+    found (fails (means b) T (concerns c.args.device c.args.set)) (length (means b).clauses) k _ inside (sym it ∙ c.if-is_broken.true) c.loop-number.invariant
 
 pub loop-number-preserved : goal.loop-number-preserved
 loop-number-preserved g c =
     let b = c.args.book.now in
     let T = posted c.args.changes.now (g.H.Host.table c.args.host.now) in
     let k = c.loop-number.number in
-    let inside = (numbered b _ k c.requires.0 c.used-clauses-clause-items.ensures c.loop-number-test.true).0 in
-    let at = (clause_at b c.requires.0 k _ c.used-clauses-clause-items.ensures _ c.loop-number-test.true).1 in
-    let it = tested b T c.args.device c.args.set k _ _ c.is-broken.result at (c.requires.1.1 k inside) c.is-broken.ensures in
-    passed_over (fails (means b) T (concerns c.args.device c.args.set)) (length (means b).clauses) k _ inside (sym it ∙ c.if-is-broken.false) c.loop-number.invariant
+    let inside = (numbered b _ k c.requires.0 c.used_clauses-clause-items.ensures c.loop-number-test.true).0 in
+    let at = (clause_at b c.requires.0 k _ c.used_clauses-clause-items.ensures _ c.loop-number-test.true).1 in
+    let it = tested b T c.args.device c.args.set k _ _ c.is_broken.result at (c.requires.1.1 k inside) c.is_broken.ensures in
+    passed_over (fails (means b) T (concerns c.args.device c.args.set)) (length (means b).clauses) k _ inside (sym it ∙ c.if-is_broken.false) c.loop-number.invariant
 
 pub returns : goal.returns
 returns g c =
     let b = c.args.book.now in
     let T = posted c.args.changes.now (g.H.Host.table c.args.host.now) in
-    none_left (fails (means b) T (concerns c.args.device c.args.set)) (length (means b).clauses) c.loop-number.number _ (omega (arith, same_length (clause_means (code_of b)) (take b.clause_count b.clauses) _ c.used-clauses-clause-items.ensures, c.loop-number-test.false)) c.loop-number.invariant
+    none_left (fails (means b) T (concerns c.args.device c.args.set)) (length (means b).clauses) c.loop-number.number _ (omega (arith, same_length (clause_means (code_of b)) (take b.clause_count b.clauses) _ c.used_clauses-clause-items.ensures, c.loop-number-test.false)) c.loop-number.invariant

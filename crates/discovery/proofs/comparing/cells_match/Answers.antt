@@ -9,17 +9,17 @@ use Rattle.discovery.proofs.comparing.cells_match.Goals as goal
 
 pub loop-device-preserved : goal.loop-device-preserved
 loop-device-preserved g c =
-    let long = ap length c.used-cells-device-end.ensures in
-    goes_on (device_checked (means c.args.book.now) (g.H.Host.table c.args.host.now)) (devices (means c.args.book.now)) c.loop-device.device tt tt _ (omega arith) (sym c.in-ok-device-matches.ensures) c.loop-device.invariant
+    let long = ap length c.used_cells-device-end.ensures in
+    goes_on (device_checked (means c.args.book.now) (g.H.Host.table c.args.host.now)) (devices (means c.args.book.now)) c.loop-device.device tt tt _ (omega arith) (sym c.in_ok-device_matches.ensures) c.loop-device.invariant
 
-pub returns-in-err-device-matches : goal.returns-in-err-device-matches
+pub returns-in_err-device_matches : goal.returns-in_err-device_matches
 unfolding cells_checked
-returns-in-err-device-matches g c =
-    let long = ap length c.used-cells-device-end.ensures in
-    handed c.from-residual.result c.from-residual.ensures.1 ∙ refuses (device_checked (means c.args.book.now) (g.H.Host.table c.args.host.now)) (devices (means c.args.book.now)) c.loop-device.device tt _ _ (omega arith) (sym c.in-err-device-matches.ensures) c.loop-device.invariant
+returns-in_err-device_matches g c =
+    let long = ap length c.used_cells-device-end.ensures in
+    handed c.from_residual.result c.from_residual.ensures.1 ∙ refuses (device_checked (means c.args.book.now) (g.H.Host.table c.args.host.now)) (devices (means c.args.book.now)) c.loop-device.device tt _ _ (omega arith) (sym c.in_err-device_matches.ensures) c.loop-device.invariant
 
 pub returns : goal.returns
 unfolding cells_checked
 returns g c =
-    let long = ap length c.used-cells-device-end.ensures in
+    let long = ap length c.used_cells-device-end.ensures in
     ends (device_checked (means c.args.book.now) (g.H.Host.table c.args.host.now)) (devices (means c.args.book.now)) c.loop-device.device tt _ (omega arith) c.loop-device.invariant

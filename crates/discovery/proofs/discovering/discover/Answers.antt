@@ -27,23 +27,23 @@ loop-number-init g c M planned =
 
 pub bounds-plan-number : goal.bounds-plan-number
 bounds-plan-number g c =
-    (numbered c.args.book.now _ c.loop-number.number c.requires.0 c.used-rules-rule-items.ensures c.loop-number-test.true).1
+    (numbered c.args.book.now _ c.loop-number.number c.requires.0 c.used_rules-rule-items.ensures c.loop-number-test.true).1
 
-pub overflow-cast-number : goal.overflow-cast-number
-overflow-cast-number g c =
-    record { fits = omega (arith, (numbered c.args.book.now _ c.loop-number.number c.requires.0 c.used-rules-rule-items.ensures c.loop-number-test.true).1) }
+pub overflow_cast-number : goal.overflow_cast-number
+overflow_cast-number g c =
+    record { fits = omega (arith, (numbered c.args.book.now _ c.loop-number.number c.requires.0 c.used_rules-rule-items.ensures c.loop-number-test.true).1) }
 
-pub by-rule-requires : goal.by-rule-requires
-by-rule-requires g c =
+pub by_rule-requires : goal.by_rule-requires
+by_rule-requires g c =
     let k = c.loop-number.number in
-    let at = rule_at c.args.book.now c.requires.0 k _ c.used-rules-rule-items.ensures _ c.loop-number-test.true in
-    (at.0, (at.1, (c.requires.1.0 k (numbered c.args.book.now _ k c.requires.0 c.used-rules-rule-items.ensures c.loop-number-test.true).0, c.requires.0.0.1)))
+    let at = rule_at c.args.book.now c.requires.0 k _ c.used_rules-rule-items.ensures _ c.loop-number-test.true in
+    (at.0, (at.1, (c.requires.1.0 k (numbered c.args.book.now _ k c.requires.0 c.used_rules-rule-items.ensures c.loop-number-test.true).0, c.requires.0.0.1)))
 
 pub loop-number-preserved : goal.loop-number-preserved
 loop-number-preserved g c M planned =
     let b = means c.args.book.now in
     let f = by_rule b (g.H.Host.table c.args.host.now) c.args.device c.args.changed in
-    settled_then M b (view c.args.lanes.now) (view c.loop-number.lanes) _ _ _ (c.loop-number.invariant M planned) (c.by-rule.ensures M (planned c.loop-number.number (numbered c.args.book.now _ c.loop-number.number c.requires.0 c.used-rules-rule-items.ensures c.loop-number-test.true).0))
+    settled_then M b (view c.args.lanes.now) (view c.loop-number.lanes) _ _ _ (c.loop-number.invariant M planned) (c.by_rule.ensures M (planned c.loop-number.number (numbered c.args.book.now _ c.loop-number.number c.requires.0 c.used_rules-rule-items.ensures c.loop-number-test.true).0))
     ∙ ap (settled M b (view c.args.lanes.now)) (joined_one f c.loop-number.number)
 
 pub returns : goal.returns
@@ -51,5 +51,5 @@ returns g c M planned =
     let b = means c.args.book.now in
     let T = g.H.Host.table c.args.host.now in
     let f = by_rule b T c.args.device c.args.changed in
-    let all : c.loop-number.number ≡ length b.rules = omega (arith, same_length (rule_means (code_of c.args.book.now)) (take c.args.book.now.rule_count c.args.book.now.rules) _ c.used-rules-rule-items.ensures, c.loop-number-test.false) in
+    let all : c.loop-number.number ≡ length b.rules = omega (arith, same_length (rule_means (code_of c.args.book.now)) (take c.args.book.now.rule_count c.args.book.now.rules) _ c.used_rules-rule-items.ensures, c.loop-number-test.false) in
     c.loop-number.invariant M planned ∙ ap (λ n. settled M b (view c.args.lanes.now) (flat_map f (range_with_len 0 n))) all ∙ sym (ap (settled M b (view c.args.lanes.now)) (by_rules b T c.args.device c.args.changed))

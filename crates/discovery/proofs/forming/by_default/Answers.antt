@@ -8,12 +8,12 @@ use Rattle.discovery.proofs.Settling.{settled_when, settled_unless}
 use Rattle.discovery.proofs.Values.{some_used}
 use Rattle.discovery.proofs.forming.by_default.Goals as goal
 
-pub returns-then-not-is-empty : goal.returns-then-not-is-empty
-returns-then-not-is-empty g c M is =
+pub returns-then-not-is_empty : goal.returns-then-not-is_empty
+returns-then-not-is_empty g c M is =
     let some = some_used c.args.book.now c.args.number c.args.rule.now Default c.used.result.now c.requires.1.0 c.used.ensures in
-    settled_when M (means c.args.book.now) _ (view c.args.lanes.now) _ _ (some ∙ ap not (sym c.if-not-is-empty.ensures)) (c.form.ensures M is)
+    settled_when M (means c.args.book.now) _ (view c.args.lanes.now) _ _ (some ∙ ap not (sym c.if-not-is_empty.ensures)) (c.form.ensures M is)
 
-pub returns-else-not-is-empty : goal.returns-else-not-is-empty
-returns-else-not-is-empty g c M is =
+pub returns-else-not-is_empty : goal.returns-else-not-is_empty
+returns-else-not-is_empty g c M is =
     let some = some_used c.args.book.now c.args.number c.args.rule.now Default c.used.result.now c.requires.1.0 c.used.ensures in
-    settled_unless M (means c.args.book.now) _ (view c.args.lanes.now) _ (some ∙ ap not (sym c.if-not-is-empty.ensures)) (λ n. (view_bounded c.args.lanes.now n).few_lost)
+    settled_unless M (means c.args.book.now) _ (view c.args.lanes.now) _ (some ∙ ap not (sym c.if-not-is_empty.ensures)) (λ n. (view_bounded c.args.lanes.now n).few_lost)

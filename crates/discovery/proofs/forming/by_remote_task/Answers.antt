@@ -17,5 +17,5 @@ pub loop-receiver-preserved : goal.loop-receiver-preserved
 loop-receiver-preserved g c M routed =
     let b = means c.args.book.now in
     let f = by_task_for b (g.H.Host.table c.args.host.now) c.args.number c.args.device in
-    settled_then M b (view c.args.lanes.now) (view c.loop-receiver.lanes) _ _ _ (c.loop-receiver.invariant M routed) (c.by-task-for.ensures M routed)
+    settled_then M b (view c.args.lanes.now) (view c.loop-receiver.lanes) _ _ _ (c.loop-receiver.invariant M routed) (c.by_task_for.ensures M routed)
     ∙ ap (settled M b (view c.args.lanes.now)) (joined_one f c.loop-receiver.receiver)

@@ -1,5 +1,5 @@
 -- The default part settles first, and then the task.
-use Rattle.std.proofs.Common.{◌≡◌, ◌&&◌, sym, ap, ◌∙◌}
+use Rattle.std.proofs.Common.{◌&&◌, sym, ap, ◌∙◌}
 use Rattle.book.specs.Means.{means}
 use Rattle.lanes.specs.View.{view}
 use Rattle.lanes.proofs.Views.{view_bounded}
@@ -9,17 +9,17 @@ use Rattle.discovery.specs.Forming.{by_rule}
 use Rattle.discovery.proofs.Settling.{settled_then, settled_when, settled_unless}
 use Rattle.discovery.proofs.forming.by_rule.Goals as goal
 
-pub returns-then-is-fired : goal.returns-then-is-fired
+pub returns-then-is_fired : goal.returns-then-is_fired
 unfolding by_rule
-returns-then-is-fired g c M routed =
+returns-then-is_fired g c M routed =
     let b = means c.args.book.now in
-    let tested = ap (λ r. has r.carriers c.args.device && share r.events c.args.changed) c.requires.1.0.is ∙ sym c.if-is-fired.ensures in
+    let tested = ap (λ r. has r.carriers c.args.device && share r.events c.args.changed) c.requires.1.0.is ∙ sym c.if-is_fired.ensures in
     settled_when M b _ (view c.args.lanes.now) _ _ tested
-    (settled_then M b (view c.args.lanes.now) (view c.by-default.new.lanes) _ _ _ (c.by-default.ensures M routed.0) (c.by-task.ensures M routed))
+    (settled_then M b (view c.args.lanes.now) (view c.by_default.new.lanes) _ _ _ (c.by_default.ensures M routed.0) (c.by_task.ensures M routed))
 
-pub returns-else-is-fired : goal.returns-else-is-fired
+pub returns-else-is_fired : goal.returns-else-is_fired
 unfolding by_rule
-returns-else-is-fired g c M routed =
+returns-else-is_fired g c M routed =
     let b = means c.args.book.now in
-    let tested = ap (λ r. has r.carriers c.args.device && share r.events c.args.changed) c.requires.1.0.is ∙ sym c.if-is-fired.ensures in
+    let tested = ap (λ r. has r.carriers c.args.device && share r.events c.args.changed) c.requires.1.0.is ∙ sym c.if-is_fired.ensures in
     settled_unless M b _ (view c.args.lanes.now) _ tested (λ n. (view_bounded c.args.lanes.now n).few_lost)

@@ -1,5 +1,5 @@
 -- Where the condition fails nothing is formed.
-use Rattle.std.proofs.Common.{◌≡◌, sym, ap, ◌∙◌}
+use Rattle.std.proofs.Common.{sym, ap, ◌∙◌}
 use Rattle.book.specs.Means.{means}
 use Rattle.lanes.specs.View.{view}
 use Rattle.lanes.proofs.Views.{view_bounded}
@@ -12,5 +12,5 @@ pub returns-else-holds : goal.returns-else-holds
 returns-else-holds g c M is =
     let T = g.H.Host.table c.args.host.now in
     let at = c.requires.1.0.is in
-    let tested = c.if-holds.ensures ∙ (λ i. truth (value_at (c.none-none.ensures T i) (c.from-own.ensures i) (c.from-other.ensures i) (decoded (c.code-of-condition.ensures i)))) ∙ ap (λ r. truth (value_at T c.args.device c.args.receiver r.condition)) (sym at) in
+    let tested = c.if-holds.ensures ∙ (λ i. truth (value_at (c.none-none.ensures T i) (c.from-own.ensures i) (c.from-other.ensures i) (decoded (c.code_of-condition.ensures i)))) ∙ ap (λ r. truth (value_at T c.args.device c.args.receiver r.condition)) (sym at) in
     settled_unless M (means c.args.book.now) _ (view c.args.lanes.now) _ (sym tested) (λ n. (view_bounded c.args.lanes.now n).few_lost)

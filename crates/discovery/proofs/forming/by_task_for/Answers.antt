@@ -1,5 +1,5 @@
 -- Where the task does not reach nothing is formed.
-use Rattle.std.proofs.Common.{◌≡◌, not, ◌&&◌, eqb, sym, ap, ◌∙◌}
+use Rattle.std.proofs.Common.{not, ◌&&◌, eqb, sym, ap, ◌∙◌}
 use Rattle.book.specs.Means.{means}
 use Rattle.lanes.specs.View.{view}
 use Rattle.lanes.proofs.Views.{view_bounded}
@@ -13,7 +13,7 @@ returns-then-reaches g c M routed =
     let d = c.args.device in
     let e = c.args.receiver in
     let tested = ap (λ r. not (eqb e d) && lands b r 1 e) c.requires.1.0.is ∙ sym c.if-reaches.ensures in
-    settled_when M b _ (view c.args.lanes.now) _ _ tested (c.by-task-at.ensures M routed.1)
+    settled_when M b _ (view c.args.lanes.now) _ _ tested (c.by_task_at.ensures M routed.1)
 
 pub returns-else-reaches : goal.returns-else-reaches
 returns-else-reaches g c M routed =

@@ -1,5 +1,5 @@
 -- No device past the width of the mask carries a rule.
-use Rattle.std.proofs.Common.{◌≡◌, ◌/◌, ◌%◌, ◌^◌, ◌<◌, eqb, ltb, sym, ap, ◌∙◌, arith, pow_mono}
+use Rattle.std.proofs.Common.{◌%◌, ◌^◌, ◌<◌, eqb, sym, ap, ◌∙◌, arith, pow_mono}
 use native.Mathlib.Nat.{div-eq_of_lt}
 use Rattle.std.proofs.lemmas.Bool.{le-ltb}
 use Rattle.discovery.proofs.forming.carries.Goals as goal

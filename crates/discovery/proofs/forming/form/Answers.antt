@@ -11,5 +11,5 @@ pub returns : goal.returns
 returns g c M is =
     let lanes = view c.args.lanes.now in
     c.arrive.ensures
-    ∙ ap (λ u. with_lane lanes c.args.lane (accept (lanes c.args.lane) (u ∷ []))) c.update-of.ensures
+    ∙ ap (λ u. with_lane lanes c.args.lane (accept (lanes c.args.lane) (u ∷ []))) c.update_of.ensures
     ∙ settled_one M (means c.args.book.now) lanes _ c.args.lane (λ n. (view_bounded c.args.lanes.now n).few_lost) is

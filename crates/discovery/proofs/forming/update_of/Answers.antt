@@ -1,24 +1,23 @@
 -- The action of a part of a right rule is right.
-use Rattle.std.proofs.Common.{◌≡◌, take, sym, ap, ◌∙◌, subst, arith}
+use Rattle.std.proofs.Common.{take, sym, ap, ◌∙◌, subst, arith}
 use Rattle.book.specs.Means.{code_of, slot_means, action_means}
 use Rattle.book.specs.Parts.{number}
 use Rattle.meaning.specs.Flow.{slots_of}
 use Rattle.runs.specs.Update.{evaluated}
 use Rattle.verdict.specs.Rights.{RightAction}
 use Rattle.verdict.proofs.Numbering.{same_length}
-use Rattle.verdict.proofs.Rightness.{action_right}
 use Rattle.discovery.proofs.Rights.{used_few}
-use Rattle.discovery.proofs.Values.{part_slots}
+use Rattle.discovery.proofs.Values.{part_slots, part_right}
 use Rattle.discovery.proofs.forming.update_of.Goals as goal
 
 pub values-requires : goal.values-requires
 values-requires g c =
-    subst (RightAction c.args.book.now) (sym c.action-action.ensures) (action_right c.args.book.now c.args.rule.now c.requires.0 c.args.part)
+    subst (RightAction c.args.book.now) (sym c.action-action.ensures) (part_right c.args.book.now c.args.rule.now c.requires.0 c.args.part)
 
-pub overflow-cast-result : goal.overflow-cast-result
-overflow-cast-result g c =
+pub overflow_cast-result : goal.overflow_cast-result
+overflow_cast-result g c =
     let b = c.args.book.now in
-    record { fits = omega (arith, used_few b c.action-action.result.now (subst (RightAction b) (sym c.action-action.ensures) (action_right b c.args.rule.now c.requires.0 c.args.part)) c.used.result.now c.used.ensures) }
+    record { fits = omega (arith, used_few b c.action-action.result.now (subst (RightAction b) (sym c.action-action.ensures) (part_right b c.args.rule.now c.requires.0 c.args.part)) c.used.result.now c.used.ensures) }
 
 pub returns : goal.returns
 returns g c =

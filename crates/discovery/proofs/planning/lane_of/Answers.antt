@@ -1,5 +1,5 @@
 -- Where there are targets, the greatest level at or below them is their meet.
-use Rattle.std.proofs.Common.{◌≡◌, List, sym, ap, ◌∙◌, subst, arith}
+use Rattle.std.proofs.Common.{sym, ap, ◌∙◌, subst, arith}
 use Rattle.std.specs.List.{AllByRecursion as All}
 use Rattle.levels.specs.Scales.{scaled, scaled_meets}
 use Rattle.book.specs.declared.book.Book.{Book}
@@ -23,8 +23,8 @@ returns-then-set-eq0 c =
     let ss = action_means (code_of b) c.args.action.now in
     record { level = sym (ap (level_of (scaled_meets c.args.scale.now) (means b)) (no_slots ss (sym c.targets-set.ensures ∙ c.if-set-eq0.true))); small = omega arith }
 
-pub meet-of-requires : goal.meet-of-requires
-meet-of-requires c =
+pub meet_of-requires : goal.meet_of-requires
+meet_of-requires c =
     let b = c.args.book.now in
     let o = scaled c.args.scale.now in
     let M = scaled_meets c.args.scale.now in
@@ -37,8 +37,8 @@ returns c =
     let M = scaled_meets c.args.scale.now in
     let ss = action_means (code_of b) c.args.action.now in
     let some = some_slots ss (λ none. c.if-set-eq0.false (c.targets-set.ensures ∙ none)) in
-    let greatest = subst (λ set. Greatest o (level (means b)) set c.meet-of.result) c.targets-set.ensures c.meet-of.ensures in
+    let greatest = subst (λ set. Greatest o (level (means b)) set c.meet_of.result) c.targets-set.ensures c.meet_of.ensures in
     record {
-      level = lane_is o M (means b) c.requires.0 ss (slots b c.args.action.now c.requires.1) some c.meet-of.result greatest;
-      small = omega (arith, c.requires.0.lawful.few, lane_inside o (means b) c.requires.0.lawful ss some c.meet-of.result greatest);
+      level = lane_is o M (means b) c.requires.0 ss (slots b c.args.action.now c.requires.1) some c.meet_of.result greatest;
+      small = omega (arith, c.requires.0.lawful.few, lane_inside o (means b) c.requires.0.lawful ss some c.meet_of.result greatest);
     }

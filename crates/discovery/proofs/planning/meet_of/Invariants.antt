@@ -1,4 +1,4 @@
-use Rattle.levels.specs.Scales.{scaled, scaled_meets}
+use Rattle.levels.specs.Scales.{scaled}
 use Rattle.book.specs.Means.{means}
 use Rattle.meaning.specs.Flow.{level}
 use Rattle.discovery.proofs.Meets.{MeetingSoFar}

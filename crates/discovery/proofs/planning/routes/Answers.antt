@@ -1,5 +1,5 @@
 -- Each turn finds the route of one rule.
-use Rattle.std.proofs.Common.{◌≡◌, ◌<◌, length, take, sym, ap, subst, arith}
+use Rattle.std.proofs.Common.{◌<◌, take, sym, subst, arith}
 use Rattle.levels.specs.Scales.{scaled_meets}
 use Rattle.book.specs.Means.{code_of, rule_means, means}
 use Rattle.verdict.proofs.Numbering.{same_length, rule_at}
@@ -9,22 +9,22 @@ use Rattle.discovery.proofs.planning.routes.Goals as goal
 
 pub route-requires : goal.route-requires
 route-requires c =
-    (c.requires, (rule_at c.args.book.now c.requires.formed c.loop-number.number _ c.used-rules-rule-items.ensures _ c.loop-number-test.true).0)
+    (c.requires, (rule_at c.args.book.now c.requires.formed c.loop-number.number _ c.used_rules-rule-items.ensures _ c.loop-number-test.true).0)
 
 pub bounds-routes-number : goal.bounds-routes-number
 bounds-routes-number c =
     let b = c.args.book.now in
-    omega (arith, same_length (rule_means (code_of b)) (take b.rule_count b.rules) _ c.used-rules-rule-items.ensures, c.loop-number-test.true, c.requires.formed.1.0)
+    omega (arith, same_length (rule_means (code_of b)) (take b.rule_count b.rules) _ c.used_rules-rule-items.ensures, c.loop-number-test.true, c.requires.formed.1.0)
 
 pub loop-number-preserved : goal.loop-number-preserved
 loop-number-preserved c =
     let b = c.args.book.now in
     let M = scaled_meets c.args.scale.now in
-    let at = (rule_at b c.requires.formed c.loop-number.number _ c.used-rules-rule-items.ensures _ c.loop-number-test.true).1 in
+    let at = (rule_at b c.requires.formed c.loop-number.number _ c.used_rules-rule-items.ensures _ c.loop-number-test.true).1 in
     let few : c.loop-number.number < 32 = bounds-routes-number c in
     filled_more (λ i x. Routed M (means b) i x × Laned x) c.loop-number.routes 32 c.loop-number.number no_route c.route.result c.loop-number.invariant.0 few (subst (λ r. RouteOf M (means b) r c.route.result) (sym at.is) c.route.ensures.route, c.route.ensures.lanes) c.loop-number.invariant.1
 
 pub returns : goal.returns
 returns c i h =
     let b = c.args.book.now in
-    c.loop-number.invariant.1 i (omega (arith, h, same_length (rule_means (code_of b)) (take b.rule_count b.rules) _ c.used-rules-rule-items.ensures, c.loop-number-test.false))
+    c.loop-number.invariant.1 i (omega (arith, h, same_length (rule_means (code_of b)) (take b.rule_count b.rules) _ c.used_rules-rule-items.ensures, c.loop-number-test.false))
