@@ -9,9 +9,9 @@ mod nearest;
 mod record;
 
 use answer::Answer;
-use anyhow::anyhow;
 use command::Command;
 use std::env;
+use std::process::ExitCode;
 
 /// The answer to the arguments, of which the first is the program's own name.
 fn answered(rt: &HostRuntime) -> anyhow::Result<Answer> {
@@ -20,15 +20,15 @@ fn answered(rt: &HostRuntime) -> anyhow::Result<Answer> {
 }
 
 /// Prints the answer; a refusal ends with status 1. Only a failure of memory or of the arguments goes to standard error.
-fn main(rt: HostRuntime) -> anyhow::Result<()> {
+fn main(rt: HostRuntime) -> anyhow::Result<ExitCode> {
     match answered(&rt)? {
         Answer::Done(text) => {
             rt.print(text)?;
-            Ok(())
+            Ok(ExitCode::SUCCESS)
         }
         Answer::Refused(text) => {
             rt.print(text)?;
-            Err(anyhow!("refused"))
+            Ok(ExitCode::FAILURE)
         }
     }
 }
