@@ -1,6 +1,6 @@
 -- Examples of values, of forbidden flows and of lanes. Assumes nothing.
 use Rattle.std.specs.Prelude.{◌≡◌, ℕ, List, [], ◌∷◌, ℤ, pos, negsuc}
-use Rattle.std.specs.List.{AllByRecursion as All}
+use Rattle.std.specs.List.{AllByRecursion}
 use Rattle.meaning.specs.declared.instruction.Operator.TheVariants.{Add, Divide, Absolute}
 use Rattle.meaning.specs.declared.instruction.Instruction.TheVariants.{Constant, Apply}
 use Rattle.meaning.specs.Book.{Book}
@@ -40,4 +40,4 @@ examples =
     waits_in (sets_meets 2) (two_cells 1 2 (on_change 0 (becomes 0 one ∷ becomes 1 one ∷ []) ∷ []) []) 0 ∷ []
 
 abbrev pub Examples : Type 0
-Examples = All Stands examples
+Examples = AllByRecursion Stands examples
