@@ -19,7 +19,7 @@ fn answered(rt: &HostRuntime) -> anyhow::Result<Answer> {
     Ok(Answer::to(rt, Command::of(arguments.as_slice()))?)
 }
 
-/// Prints the answer; a refusal ends with status 1. Only a failure of memory or of the arguments goes to standard error.
+/// Prints the answer; a refusal ends with status 1. Only a failure of memory, of the arguments or of printing goes to standard error.
 fn main(rt: HostRuntime) -> anyhow::Result<ExitCode> {
     match answered(&rt)? {
         Answer::Done(text) => {

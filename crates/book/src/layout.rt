@@ -1,5 +1,5 @@
 //! Where the sections of a file lie, once its header is right.
-ghost use Rattle.std.specs.Prelude.{◌≡◌, ◌≤◌};
+ghost use Rattle.std.specs.Prelude.{◌≤◌};
 
 /// The counts of a book file, and how many bytes of code it has.
 #[derive(Clone, Copy)]

@@ -1,6 +1,5 @@
 //! Which clauses a change would make false.
 ghost use Rattle.std.specs.Prelude.{◌≡◌, not, ◌&&◌, ◌==◌};
-ghost use Rattle.meaning.specs.Expression.{truth};
 ghost use Rattle.meaning.specs.Flow.{share};
 ghost use Rattle.meaning.specs.WellFormed.{WellFormed};
 ghost use Rattle.runs.specs.Clauses as meant;

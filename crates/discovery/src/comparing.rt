@@ -1,6 +1,6 @@
 //! Whether a host has the cells of a book, no more and no fewer under the book's counts.
 ghost use Rattle.std.specs.Prelude.{◌≡◌, ◌<◌, ◌≤◌};
-ghost use Rattle.meaning.specs.Book.{devices, resources, cells_of};
+ghost use Rattle.meaning.specs.Book.{resources, cells_of};
 ghost use Rattle.meaning.specs.WellFormed.{WellFormed};
 ghost use Rattle.runs.specs.Step.{cell_checked, device_checked, cells_checked};
 ghost use Rattle.book.specs.Means.{means};

@@ -1,5 +1,5 @@
 //! Members of a set of resources, walked from the lowest on.
-ghost use Rattle.std.specs.Prelude.{◌≡◌, ℕ, ◌<◌, true};
+ghost use Rattle.std.specs.Prelude.{◌≡◌, ◌<◌, true};
 ghost use Rattle.meaning.specs.Flow.{share};
 ghost use Rattle.meaning.specs.Sets.{has};
 ghost use Rattle.discovery.specs.Members.{Without};

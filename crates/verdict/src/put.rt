@@ -1,5 +1,5 @@
 //! Flows put into a buffer, five bytes each, as far as it reaches.
-ghost use Rattle.std.specs.Prelude.{◌≡◌, ◌+◌, ◌^◌, ◌<◌, ◌≤◌, not, ◌&&◌, [], ◌∷◌, set, filter, slice_index, slice_set};
+ghost use Rattle.std.specs.Prelude.{◌≡◌, ◌+◌, ◌^◌, ◌<◌, ◌≤◌, not, ◌&&◌, [], ◌∷◌, filter, slice_index, slice_set};
 ghost use Rattle.meaning.specs.Book.{resources};
 ghost use Rattle.meaning.specs.FlowList.{flow, to_target};
 ghost use Rattle.meaning.specs.Sets.{has};
