@@ -54,8 +54,8 @@ module _ {bs : List ℕ} {l : Layout} (framed : Framed bs l) where
     few_slots : (i : ℕ) → i < l.rules → (byte_at bs (rules_from (plan l) + 53 * i + 7) ≤ 4) × (byte_at bs (rules_from (plan l) + 53 * i + 8) ≤ 4)
     unfolding fields_checked rule_checked
     few_slots i h =
-        let after-masks = both (through (mask_checked bs (plan l)) l.devices 0 tt) _ tt fields in
-        let rules = both (through (λ k. rule_checked bs (plan l) (rules_from (plan l) + 53 * k)) l.rules 0 0) _ tt after-masks.2 in
+        let after_masks = both (through (mask_checked bs (plan l)) l.devices 0 tt) _ tt fields in
+        let rules = both (through (λ k. rule_checked bs (plan l) (rules_from (plan l) + 53 * k)) l.rules 0 0) _ tt after_masks.2 in
         let step = each (λ k. rule_checked bs (plan l) (rules_from (plan l) + 53 * k)) l.rules 0 rules.0 rules.1 i h in
         let p = rules_from (plan l) + 53 * i in
         let head = both (head_checked bs (plan l) p) _ step.1 step.2 in

@@ -55,12 +55,12 @@ operator_range Absolute = refl
 
 applies : (o : Operator) (d : Row) → Rule (Apply o) (get_or table (opcode o) d)
 applies o d =
-    let in-range = and_parts _ _ (operator_range o) in
-    let past = leb-true 3 (opcode o) in-range.0 in
-    let no-constant : eqb (opcode o) 0 ≡ false = grind (arith, nat_tests) in
-    let told = and_parts _ _ (at (opcode o) d (ltb-true _ 15 in-range.1)) in
+    let in_range = and_parts _ _ (operator_range o) in
+    let past = leb-true 3 (opcode o) in_range.0 in
+    let no_constant : eqb (opcode o) 0 ≡ false = grind (arith, nat_tests) in
+    let told = and_parts _ _ (at (opcode o) d (ltb-true _ 15 in_range.1)) in
     let parts = and_parts _ _ told.1 in
-    (eqb-true _ _ parts.0 ∙ cond-false _ _ _ no-constant ∙ cond-false _ _ _ (le-ltb _ 3 past), eqb-true _ _ parts.1 ∙ cond-false _ _ _ (le-ltb _ 3 past))
+    (eqb-true _ _ parts.0 ∙ cond-false _ _ _ no_constant ∙ cond-false _ _ _ (le-ltb _ 3 past), eqb-true _ _ parts.1 ∙ cond-false _ _ _ (le-ltb _ 3 past))
 
 pub rule : (i : Instruction) → Rule i (get_or table (get_or (encoded_instruction i) 0 0) (line 0 0 0))
 rule (Constant v) = (refl, refl)

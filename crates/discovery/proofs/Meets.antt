@@ -36,12 +36,12 @@ module _ (o : Order) (M : Meets) (level : ℕ → ℕ) (set : ℕ) (comparable :
   pub next_met : (m t left rest : ℕ) → MeetingSoFar o level set left m → has left t ≡ true → Without left t rest → MeetingSoFar o level set rest (M.meet m (level t))
   next_met m t left rest so_far h less =
       let inside = comparable.inside t (so_far.among t h) in
-      let left-of = comparable.meeting.at_left m (level t) so_far.inside inside in
+      let left_of = comparable.meeting.at_left m (level t) so_far.inside inside in
       let right_of = comparable.meeting.at_right m (level t) so_far.inside inside in
       let trans = comparable.lawful.transitive (M.meet m (level t)) in
       record {
-        inside = comparable.lawful.left_inside _ m left-of;
-        lower = λ r here gone. ⊎_elim (λ out. trans m (level r) left-of (so_far.lower r here out)) (λ same. subst (λ x. o.below (M.meet m (level t)) (level x) ≡ true) (sym (eqb-true r t (not-false _ same))) right_of) (and_cases (has left r) _ (sym (less.others r) ∙ gone));
+        inside = comparable.lawful.left_inside _ m left_of;
+        lower = λ r here gone. ⊎_elim (λ out. trans m (level r) left_of (so_far.lower r here out)) (λ same. subst (λ x. o.below (M.meet m (level t)) (level x) ≡ true) (sym (eqb-true r t (not-false _ same))) right_of) (and_cases (has left r) _ (sym (less.others r) ∙ gone));
         above = λ c all. comparable.meeting.greatest m (level t) c (so_far.above c all) (all t (so_far.among t h));
         among = λ r here. so_far.among r (and_parts (has left r) _ (sym (less.others r) ∙ here)).0;
       }

@@ -35,17 +35,17 @@ module _ (rs : List Rule) (cs : List Clause) (f : Flow) (y z : ℤ) (calls other
   book = low_high rs cs
 
   leak : length rs ≤ 32 → length cs ≤ 32 → Ruled book → flow_list (ladder 2) book ≡ f ∷ [] → all_hold book (held y) ≡ true → all_hold book (held z) ≡ true → own_calls book (run_with y calls) ≡ own_calls book (run_with z others) → eqb (marks book (run_with y calls)) (marks book (run_with z others)) ≡ false → Leak f.kind
-  leak few-rules few-clauses ruled only holds other-holds same_calls differ =
+  leak few_rules few_clauses ruled only holds other_holds same_calls differ =
       record {
         book = book;
-        well_formed = well_formed rs cs few-rules few-clauses ruled;
+        well_formed = well_formed rs cs few_rules few_clauses ruled;
         levels = levels_inside rs cs;
         flow = f;
         only = only;
         is_of_kind = refl;
         run = run_with y calls;
         other = run_with z others;
-        alike = record { started = started rs cs y holds; other_started = started rs cs z other-holds; same_view = views_alike rs cs y z; same_calls = same_calls };
+        alike = record { started = started rs cs y holds; other_started = started rs cs z other_holds; same_view = views_alike rs cs y z; same_calls = same_calls };
         apart = λ e. eqb-false _ _ differ (ap (λ answers. sum (map mark answers)) e);
       }
 

@@ -44,8 +44,8 @@ module _ (rs : List Rule) (cs : List Clause) where
   -- a small book is well-formed where its rules and clauses are
   pub well_formed : length rs ≤ 32 → length cs ≤ 32 → Ruled (low_high rs cs) → WellFormed (low_high rs cs)
   unfolding every count_cells ones
-  well_formed few-rules few-clauses ruled =
-      ((omega arith, omega arith, omega arith, omega arith), (few-rules, few-clauses), (refl, refl, refl, refl), ruled)
+  well_formed few_rules few_clauses ruled =
+      ((omega arith, omega arith, omega arith, omega arith), (few_rules, few_clauses), (refl, refl, refl, refl), ruled)
 
   pub levels_inside : levelled (ladder 2) (low_high rs cs) ≡ true
   unfolding every

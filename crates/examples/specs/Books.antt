@@ -7,8 +7,8 @@ use Rattle.meaning.specs.Expression.{Expression}
 
 -- one device with the resources 0 and 1, of the given levels, whose cells start at 0
 abbrev pub two_cells : ℕ → ℕ → List Rule → List Clause → Book
-two_cells level-0 level-1 rules clauses =
-    record { levels = level-0 ∷ level-1 ∷ []; cells = 3 ∷ []; starts = pos 0 ∷ pos 0 ∷ []; rules = rules; clauses = clauses }
+two_cells level_0 level_1 rules clauses =
+    record { levels = level_0 ∷ level_1 ∷ []; cells = 3 ∷ []; starts = pos 0 ∷ pos 0 ∷ []; rules = rules; clauses = clauses }
 
 -- resource 0 has level 0, and resource 1 has level 1
 abbrev pub low_high : List Rule → List Clause → Book

@@ -26,10 +26,10 @@ module _ (masks : List ℕ) (fits : (d : ℕ) → get_or masks d 0 < 2 ^ 32) (lo
       value : (d r : ℕ) → has_cell b.cells d r ≡ true → get_or values (32 * d + r) (pos 0) ≡ get_or b.starts (word b.cells d r) (pos 0)
       value d r there =
           let here = same_has masks b.cells agree d r ∙ there in
-          let low-d = low_device masks d r here in
-          let low-r = low_resource masks d r (fits d) here in
-          let at-d : (32 * d + r) / 32 ≡ d = omega arith in
-          let at-r : (32 * d + r) % 32 ≡ r = omega arith in
-          each (32 * d + r) (omega arith) ((λ i. has_cell masks (at-d i) (at-r i)) ∙ here)
-          ∙ (λ i. get_or b.starts (word masks (at-d i) (at-r i)) (pos 0))
+          let low_d = low_device masks d r here in
+          let low_r = low_resource masks d r (fits d) here in
+          let at_d : (32 * d + r) / 32 ≡ d = omega arith in
+          let at_r : (32 * d + r) % 32 ≡ r = omega arith in
+          each (32 * d + r) (omega arith) ((λ i. has_cell masks (at_d i) (at_r i)) ∙ here)
+          ∙ (λ i. get_or b.starts (word masks (at_d i) (at_r i)) (pos 0))
           ∙ ap (λ w. get_or b.starts w (pos 0)) (same_word masks b.cells agree d r)

@@ -5,7 +5,7 @@ use Rattle.std.proofs.lemmas.List.{length-append}
 use Rattle.std.proofs.lemmas.Bool.{eqb-false, ne_eqb, eq-eqb, le-leb, leb-true, lt-ltb, le-ltb, and_parts, and_from, or_from, cond-true, cond-false, not-true, not_from_false}
 use Rattle.meaning.specs.Bytes.{byte_at, two_at, two, part}
 use Rattle.meaning.specs.Checks.{through}
-use Rattle.meaning.specs.Expression.{Expression, Scope, encoded_expression, decoded, right_from, wrong, right as right-expression}
+use Rattle.meaning.specs.Expression.{Expression, Scope, encoded_expression, decoded, right_from, wrong, right as right_expression}
 use Rattle.meaning.specs.Book.{Slot}
 use Rattle.meaning.specs.File.{pair, size_of, slots_code, slots_bytes}
 use Rattle.meaning.specs.WellFormed.{every, unset, distinct, right_action}
@@ -48,10 +48,10 @@ module _ (bs : List ℕ) (l : Layout) (long : code_from l + room l ≤ length bs
         let inside : at + two_at bs (p + 2) ≤ room l = subst (λ n. at + n ≤ room l) (sym size_read) held.fits in
         granted _ _ _ (and_from _ _ (eq-eqb _ _ offset_read) (le-leb _ _ inside)) ∙ ap (λ n. Ok (at + n)) size_read
 
-    pub expression_read : (s : Scope) → right-expression s e ≡ true → expression_at bs (code_from l) p ≡ e
+    pub expression_read : (s : Scope) → right_expression s e ≡ true → expression_at bs (code_from l) p ≡ e
     expression_read s good = ap decoded code_read ∙ (encoded_right s e (and_parts _ _ good).0).1
 
-    pub expression_passes : (receiver : Bool) → right-expression (record { resources = l.resources; receiver = receiver }) e ≡ true → expression_checked bs l receiver p ≡ Ok tt
+    pub expression_passes : (receiver : Bool) → right_expression (record { resources = l.resources; receiver = receiver }) e ≡ true → expression_checked bs l receiver p ≡ Ok tt
     unfolding expression_checked
     expression_passes receiver good =
         let s : Scope = record { resources = l.resources; receiver = receiver } in
@@ -84,7 +84,7 @@ module _ (bs : List ℕ) (l : Layout) (long : code_from l + room l ≤ length bs
       slot_passes count used small new =
           cond-true _ _ _ (lt-ltb k count used) ∙ granted _ _ _ (subst (λ t. (ltb t l.resources && not (repeated bs p t k)) ≡ true) (sym target_read) (and_from _ _ small new)) ∙ pair_passes (p + 5 * k + 1) at s.value value_named
 
-      slot_read : (c : Scope) → right-expression c s.value ≡ true → slot_at bs (code_from l) (p + 5 * k) ≡ s
+      slot_read : (c : Scope) → right_expression c s.value ≡ true → slot_at bs (code_from l) (p + 5 * k) ≡ s
       slot_read c good =
           let value = expression_read (p + 5 * k + 1) at s.value value_named c good in
           λ i. record { target = target_read i; value = value i }
@@ -144,7 +144,7 @@ module _ (bs : List ℕ) (l : Layout) (long : code_from l + room l ≤ length bs
       abbrev scope : Scope
       scope = record { resources = l.resources; receiver = receiver }
 
-      parts : (length ss ≤ 4) × (every (λ x. ltb x.target l.resources) ss ≡ true) × (distinct ss ≡ true) × (every (λ x. right-expression scope x.value) ss ≡ true)
+      parts : (length ss ≤ 4) × (every (λ x. ltb x.target l.resources) ss ≡ true) × (distinct ss ≡ true) × (every (λ x. right_expression scope x.value) ss ≡ true)
       parts =
           let few = and_parts _ _ good in
           let small = and_parts _ _ few.1 in
@@ -152,10 +152,10 @@ module _ (bs : List ℕ) (l : Layout) (long : code_from l + room l ≤ length bs
           (leb-true _ _ few.0, small.0, differ.0, differ.1)
 
       abbrev SlotRight : ℕ → ℕ → Slot → Type 0
-      SlotRight k a s = SlotHeld bs l p k a s × (right-expression scope s.value ≡ true)
+      SlotRight k a s = SlotHeld bs l p k a s × (right_expression scope s.value ≡ true)
 
       each_right : Each slot_code SlotRight 0 at ss
-      each_right = each_both slot_code (SlotHeld bs l p) _ 0 at ss (slots_held 4 at ss parts.0 held) (each_every slot_code (λ s. right-expression scope s.value) 0 at ss parts.3)
+      each_right = each_both slot_code (SlotHeld bs l p) _ 0 at ss (slots_held 4 at ss parts.0 held) (each_every slot_code (λ s. right_expression scope s.value) 0 at ss parts.3)
 
       pub action_passes : action_checked bs l p (length ss) at ≡ Ok (at + length (slots_code ss))
       unfolding action_checked

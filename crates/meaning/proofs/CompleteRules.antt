@@ -5,7 +5,7 @@ use Rattle.std.proofs.lemmas.List.{length-append}
 use Rattle.std.proofs.lemmas.Bool.{and_parts}
 use Rattle.meaning.specs.Bytes.{byte_at, two_at, four_at}
 use Rattle.meaning.specs.Sets.{some_under}
-use Rattle.meaning.specs.Expression.{encoded_expression, right as right-expression}
+use Rattle.meaning.specs.Expression.{encoded_expression, right as right_expression}
 use Rattle.meaning.specs.Book.{Slot, Rule, Clause}
 use Rattle.meaning.specs.File.{pair, size_of, slots_code, slots_bytes, head_bytes, rule_code, rule_bytes, clause_bytes}
 use Rattle.meaning.specs.WellFormed.{right_action, right_rule, right_clause}
@@ -50,7 +50,7 @@ module _ (bs : List ℕ) (l : Layout) (long : code_from l + room l ≤ length bs
     abbrev actions_code : List ℕ
     actions_code = slots_code r.defaults ++ slots_code r.tasks
 
-    parts : (some_under r.carriers l.devices ≡ true) × (some_under r.events l.resources ≡ true) × (right-expression (record { resources = l.resources; receiver = r.remote }) r.condition ≡ true) × (right_action (record { resources = l.resources; receiver = false }) r.defaults ≡ true) × (right_action (record { resources = l.resources; receiver = r.remote }) r.tasks ≡ true)
+    parts : (some_under r.carriers l.devices ≡ true) × (some_under r.events l.resources ≡ true) × (right_expression (record { resources = l.resources; receiver = r.remote }) r.condition ≡ true) × (right_action (record { resources = l.resources; receiver = false }) r.defaults ≡ true) × (right_action (record { resources = l.resources; receiver = r.remote }) r.tasks ≡ true)
     parts =
         let first = and_parts _ _ good in
         let second = and_parts _ _ first.1 in

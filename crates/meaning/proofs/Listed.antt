@@ -153,17 +153,17 @@ module _ (b : Book) (f : Flow) (target : f.target < resources b) (source : f.sou
 
   has_rule : f.rule < length b.rules → f.part < 2 → 1 ≤ f.kind → f.kind ≤ 4 → Has (candidates b) f
   has_rule rule part low high =
-      let in-part = has_joined (of_kind b f.rule f.part) f f.kind has_kind 1 4 low (omega arith) in
-      let in-rule = has_joined (of_part b f.rule) f f.part in-part 0 2 (omega arith) (omega arith) in
+      let in_part = has_joined (of_kind b f.rule f.part) f f.kind has_kind 1 4 low (omega arith) in
+      let in_rule = has_joined (of_part b f.rule) f f.part in_part 0 2 (omega arith) (omega arith) in
       has_append_left _ (flat_map (of_clause b) (range_with_len 0 (length b.clauses))) f
-      (has_joined (of_rule b) f f.rule in-rule 0 (length b.rules) (omega arith) (omega arith))
+      (has_joined (of_rule b) f f.rule in_rule 0 (length b.rules) (omega arith) (omega arith))
 
   has_clause : 32 ≤ f.rule → f.rule < 32 + length b.clauses → f.part ≡ 0 → f.kind ≡ 5 → Has (candidates b) f
   has_clause low high part kind =
       let rule : f.rule ≡ 32 + (f.rule - 32) = omega arith in
-      let in-clause = subst (λ l. Has l f) (λ i. of_kind b (rule i) (part i) (kind i)) has_kind in
+      let in_clause = subst (λ l. Has l f) (λ i. of_kind b (rule i) (part i) (kind i)) has_kind in
       has_append_right (flat_map (of_rule b) (range_with_len 0 (length b.rules))) _ f
-      (has_joined (of_clause b) f (f.rule - 32) in-clause 0 (length b.clauses) (omega arith) (omega arith))
+      (has_joined (of_clause b) f (f.rule - 32) in_clause 0 (length b.clauses) (omega arith) (omega arith))
 
 -- a forbidden flow's numbers are in range
 has_forbidden : (o : Order) (b : Book) (f : Flow) → forbidden o b f ≡ true → Has (candidates b) f

@@ -133,7 +133,7 @@ module _ (bs : List ℕ) (l : Layout) where
 
     formed : length (spelt bs l).starts ≡ count_cells (spelt bs l).cells → WellFormed (spelt bs l)
     unfolding spelt
-    formed cells-counted =
+    formed cells_counted =
         let counts = counts_right l all.counts in
         let named = devices_are in
         let known = resources_are in (
@@ -142,7 +142,7 @@ module _ (bs : List ℕ) (l : Layout) where
           (
             every_row (λ x. ltb x 256) (level_of bs) l.resources (λ i lt. lt-ltb (level_of bs i) 256 (fit (32 + i))),
             with_counts (λ _ n. every (λ m. under m n) (map (mask_of bs l) (range_with_len 0 l.devices)) ≡ true) masks_under,
-            cells-counted,
+            cells_counted,
             every_row (λ z. ltb (mag z) 2147483648) (start_of bs l) l.cells (λ i lt. lt-ltb _ 2147483648 (read_sfits w32 (four_at bs (starts_from l + 4 * i))).sfits),
           ),
           (

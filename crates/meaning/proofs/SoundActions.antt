@@ -111,7 +111,7 @@ module _ (bs : List ℕ) (l : Layout) (fit : Bytes bs) (fits : code_from l + roo
 
     -- its pair and its code stand in the file
     pub expression_written : (q at end : ℕ) → q ≡ p + 4 → pair_checked bs l p at ≡ Ok end → Written bs (code_from l) p q at end (pair at (size_of (expression_of bs l p))) (encoded_expression (expression_of bs l p))
-    expression_written q at end four-on e =
+    expression_written q at end four_on e =
         let tests = passed (eqb (two_at bs p) at && leb (at + size) (room l)) _ (Ok (at + size)) end e in
         let parts = and_parts (eqb (two_at bs p) at) (leb (at + size) (room l)) tests.0 in
         let starts = eqb-true (two_at bs p) at parts.0 in
@@ -121,7 +121,7 @@ module _ (bs : List ℕ) (l : Layout) (fit : Bytes bs) (fits : code_from l + roo
         let ends : from + size ≡ code_from l + end = omega arith in
         let long : size ≡ size_of (expression_of bs l p) = omega (arith, code.ends, ap length code_right.1) in
         record {
-          here = pair_fills bs p q at (size_of (expression_of bs l p)) fit four-on starts long;
+          here = pair_fills bs p q at (size_of (expression_of bs l p)) fit four_on starts long;
           there =
               subst (λ k. Fills bs (code_from l + k) (code_from l + end) (encoded_expression (expression_of bs l p))) starts
               (subst (λ k. Fills bs from k (encoded_expression (expression_of bs l p))) ends (subst (Fills bs from (from + size)) (sym code_right.1) code));
@@ -132,7 +132,7 @@ module _ (bs : List ℕ) (l : Layout) (fit : Bytes bs) (fits : code_from l + roo
     -- an unused one is zero
     zeros_written : (k q at end : ℕ) → q ≡ p + 5 * k + 5 → count ≤ k → slot_checked bs l p count k at ≡ Ok end → Written bs (code_from l) (p + 5 * k) q at end (0 ∷ four 0) []
     unfolding slot_checked
-    zeros_written k q at end five-on ge e =
+    zeros_written k q at end five_on ge e =
         let i = p + 5 * k in
         let target = passed (eqb (byte_at bs i) 0) _ _ end (sym (cond-false (ltb k count) _ _ (le-ltb k count ge)) ∙ e) in
         let rest = passed (eqb (four_at bs (i + 1)) 0) _ (Ok at) end target.1 in
@@ -143,7 +143,7 @@ module _ (bs : List ℕ) (l : Layout) (fit : Bytes bs) (fits : code_from l + roo
 
     module _ (receiver : Bool) (values : (k : ℕ) → k < count → expression_checked bs l receiver (p + 5 * k + 1) ≡ Ok tt) where
       slot_written : (k q at end : ℕ) → q ≡ p + 5 * k + 5 → k < count → slot_checked bs l p count k at ≡ Ok end → Written bs (code_from l) (p + 5 * k) q at end (slot_bytes at (slot_of bs l p k)) (encoded_expression (slot_of bs l p k).value)
-      slot_written k q at end five-on lt e =
+      slot_written k q at end five_on lt e =
           let i = p + 5 * k in
           written_after (byte_fills bs i (i + 1) (byte_at bs i) refl refl) (expression_written receiver (i + 1) (values k lt) q at end (omega arith) (slot_used bs l p count k at end lt e).2)
 

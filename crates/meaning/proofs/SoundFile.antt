@@ -38,10 +38,10 @@ pairs l =
 
 -- a section that was checked: its pair stands in the header, and its end is in the file
 section_fills : (bs : List ℕ) (p q from size : ℕ) → Bytes bs → q ≡ p + 4 → section_right bs p from size ≡ true → Fills bs p q (pair from size) × (from + size ≤ length bs)
-section_fills bs p q from size fit four-on e =
+section_fills bs p q from size fit four_on e =
     let offset = and_parts (eqb (two_at bs p) from) _ e in
     let rest = and_parts (eqb (two_at bs (p + 2)) size) _ offset.1 in
-    (pair_fills bs p q from size fit four-on (eqb-true _ from offset.0) (eqb-true _ size rest.0), leb-true (from + size) (length bs) rest.1)
+    (pair_fills bs p q from size fit four_on (eqb-true _ from offset.0) (eqb-true _ size rest.0), leb-true (from + size) (length bs) rest.1)
 
 pub counts_right : (l : Layout) → counts_checked l ≡ Ok tt → (1 ≤ l.devices) × (l.devices ≤ 16) × (1 ≤ l.resources) × (l.resources ≤ 32) × (l.rules ≤ 32) × (l.clauses ≤ 32)
 counts_right l e =

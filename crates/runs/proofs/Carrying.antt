@@ -46,17 +46,17 @@ kept_none p (x ∷ xs) h = cond-false (p x) _ _ h.0 ∙ kept_none p xs h.1
 module _ (o : Order) (M : Meets) (b : Book) (accepted : Accepted o M b) (k : ℕ) where
   -- a clause that reads only what is at or below k
   pub holds_same : (T U : Table) → Agree b (low o b k) T U → (j : ℕ) → j < length b.clauses → ((r : ℕ) → has (reads 0 (clause_at b j).test) r ≡ true → low o b k r ≡ true) → holds T (clause_at b j) ≡ holds U (clause_at b j)
-  holds_same T U agree j h reads-low =
+  holds_same T U agree j h reads_low =
       let x = clausal o M b accepted j h in
-      ap truth (value_agree b (low o b k) T U _ _ (clause_at b j).test x.device_there x.device_there x.test_there reads-low (λ r asked. absurd (x.test_alone r asked)) agree)
+      ap truth (value_agree b (low o b k) T U _ _ (clause_at b j).test x.device_there x.device_there x.test_there reads_low (λ r asked. absurd (x.test_alone r asked)) agree)
 
   -- the clauses that p picks read only what is at or below k
   pub failing_same : (T U : Table) (d m : ℕ) → Agree b (low o b k) T U → ((j : ℕ) → j < length b.clauses → concerns d m (clause_at b j) ≡ true → (r : ℕ) → has (reads 0 (clause_at b j).test) r ≡ true → low o b k r ≡ true) → failing b T (concerns d m) ≡ failing b U (concerns d m)
-  failing_same T U d m agree picks-low =
+  failing_same T U d m agree picks_low =
       first_same _ _ (length b.clauses) 0 (λ j lt.
       let h : j < length b.clauses = omega arith in
       ⊎_elim
-      (λ it. ap (λ t. concerns d m (clause_at b j) && not t) (holds_same T U agree j h (picks-low j h it)))
+      (λ it. ap (λ t. concerns d m (clause_at b j) && not t) (holds_same T U agree j h (picks_low j h it)))
       (λ other. ap (λ t. t && not (holds T (clause_at b j))) other ∙ sym (ap (λ t. t && not (holds U (clause_at b j))) other))
       (cases_Bool (concerns d m (clause_at b j))))
 

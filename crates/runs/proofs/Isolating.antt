@@ -67,9 +67,9 @@ module _ (o : Order) (M : Meets) (b : Book) (accepted : Accepted o M b) (k : ℕ
   -- an input to a resource at or below k: a clause that reads it reads only resources of its level
   concerned_low : (d r : ℕ) → low o b k r ≡ true → (j : ℕ) → j < length b.clauses → concerns d (2 ^ r) (clause_at b j) ≡ true → (s : ℕ) → has (reads 0 (clause_at b j).test) s ≡ true → low o b k s ≡ true
   concerned_low d r below j h it s read =
-      let (t, reads-t, is-r) = shared _ (2 ^ r) (and_parts (eqb (clause_at b j).device d) _ it).1 in
-      let reads-r = subst (λ x. has (reads 0 (clause_at b j).test) x ≡ true) (sym (only_itself r t is-r)) reads-t in
-      accepted.lawful.transitive (level b s) (level b r) k (clause_allowed o M b accepted j r s h reads-r read) below
+      let (t, reads_t, is_r) = shared _ (2 ^ r) (and_parts (eqb (clause_at b j).device d) _ it).1 in
+      let reads_r = subst (λ x. has (reads 0 (clause_at b j).test) x ≡ true) (sym (only_itself r t is_r)) reads_t in
+      accepted.lawful.transitive (level b s) (level b r) k (clause_allowed o M b accepted j r s h reads_r read) below
 
   -- what a call within k finds is the same in two states that look the same
   module _ (s t : State) (good : Good M b s) (good' : Good M b t) (h : Same o b k s t) where

@@ -52,8 +52,8 @@ module _ (o : Order) (b : Book) where
       ∙ row_forbidden i p k targets from (part_flow b r p k)
       (λ t s.
       let f = flow i p k t s in
-      let not-clause : by_clause b f ≡ false = and_right _ _ (and_left _ _ (and_right (eqb p 0) (eqb k 5) (ne_eqb k 5 (λ e. omega arith)))) in
-      or_none (by_rule b f) (by_clause b f) not-clause
+      let not_clause : by_clause b f ≡ false = and_right _ _ (and_left _ _ (and_right (eqb p 0) (eqb k 5) (ne_eqb k 5 (λ e. omega arith)))) in
+      or_none (by_rule b f) (by_clause b f) not_clause
       ∙ (λ j. lt-ltb i (length b.rules) x.inside j && (lt-ltb p 2 x.few j && ((le-leb 1 k low j && le-leb k 4 high j) && part_flow b (x.rule j) p k t s))))
       (λ t s h. sym (λ j. has (x.ends j) t && has (each t h j) s))
 

@@ -23,6 +23,6 @@ returns c =
     let starts = c.fill_table-3.ensures ∙ ap (λ p. map (λ k. start_at bs (p + 4 * k)) (range_with_len 0 l.cells)) c.starts_from.ensures in
     let rules = c.fill_table-4.ensures ∙ ap (λ p. map (λ k. rule_spelt bs (p + 53 * k)) (range_with_len 0 l.rules)) c.rules_from.ensures in
     let clauses = c.fill_table-5.ensures ∙ ap (λ p. map (λ k. clause_spelt bs (p + 5 * k)) (range_with_len 0 l.clauses)) c.clauses_from.ensures in
-    let rules-meant = (λ i. map (rule_means (code i)) (rules i)) ∙ rules_mean bs from (rules_from (plan l)) l.rules c.requires.four in
-    let clauses-meant = (λ i. map (clause_means (code i)) (clauses i)) ∙ clauses_mean bs from (clauses_from (plan l)) l.clauses in
-    λ i. record { levels = levels i; cells = cells i; starts = starts i; rules = rules-meant i; clauses = clauses-meant i }
+    let rules_meant = (λ i. map (rule_means (code i)) (rules i)) ∙ rules_mean bs from (rules_from (plan l)) l.rules c.requires.four in
+    let clauses_meant = (λ i. map (clause_means (code i)) (clauses i)) ∙ clauses_mean bs from (clauses_from (plan l)) l.clauses in
+    λ i. record { levels = levels i; cells = cells i; starts = starts i; rules = rules_meant i; clauses = clauses_meant i }
