@@ -15,7 +15,7 @@ pub const CLAUSES: usize = 32;
 pub const CODE: usize = 20480;
 
 /// A book. Of each table the first entries are used: as many as its count says.
-#[derive(Drop)]
+#[derive(PartialEq, Eq, Drop)]
 pub struct Book {
     pub device_count: usize,
     pub resource_count: usize,

@@ -22,9 +22,9 @@ mod smallest;
 mod spelling;
 mod used;
 
-pub use book::Book;
+pub use book::{Book, CELLS, CLAUSES, DEVICES, RESOURCES, RULES};
 pub use draft::Draft;
 pub use opcode::front;
 pub use part::Part;
 pub use reader::read;
-pub use rule::{Action, Clause, Kind, Rule, Slot, Span};
+pub use rule::{Action, Clause, Kind, Rule, SLOTS, Slot, Span};

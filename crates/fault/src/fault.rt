@@ -1,5 +1,8 @@
 //! The layers, their causes, and the fault that names one of them with its place.
 
+/// The number by which a place, as the list of flows, names the first clause, after those of the rules.
+pub const FIRST_CLAUSE: u8 = 32;
+
 /// Why a book file is not read.
 #[derive(Clone, Copy, PartialEq, Eq, Debug)]
 pub enum BookCause {

@@ -5,5 +5,7 @@ mod fault;
 mod sentence;
 mod text;
 
-pub use fault::{BookCause, CallCause, EnsembleCause, Fault, HostCause, Layer, OrderCause};
+pub use fault::{
+    BookCause, CallCause, EnsembleCause, FIRST_CLAUSE, Fault, HostCause, Layer, OrderCause,
+};
 pub use sentence::Sentence;

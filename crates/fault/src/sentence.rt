@@ -1,9 +1,8 @@
 //! A fault in a sentence for people.
-use super::fault::{BookCause, CallCause, EnsembleCause, Fault, HostCause, Layer, OrderCause};
+use super::fault::{
+    BookCause, CallCause, EnsembleCause, FIRST_CLAUSE, Fault, HostCause, Layer, OrderCause,
+};
 use std::fmt;
-
-/// The number by which a fault names the first clause, after the rules.
-const FIRST_CLAUSE: u32 = 32;
 
 /// A fault that prints as a full sentence, with its place in words.
 #[derive(Clone, Copy)]
@@ -15,12 +14,11 @@ struct Part(u32);
 
 impl fmt::Display for Part {
     fn fmt<W: fmt::Write>(&self, f: &mut fmt::Formatter<W>) -> fmt::Result {
-        if self.0 < FIRST_CLAUSE {
-            let rule = self.0;
-            return write!(f, "rule {rule}");
+        let number = self.0;
+        match number.checked_sub(u32::from(FIRST_CLAUSE)) {
+            Some(clause) => write!(f, "clause {clause}"),
+            None => write!(f, "rule {number}"),
         }
-        let clause = self.0 - FIRST_CLAUSE;
-        write!(f, "clause {clause}")
     }
 }
 

@@ -1,5 +1,5 @@
 -- Checks in a row. Assumes nothing.
-use Rattle.std.proofs.Common.{◌≡◌, ℕ, suc, ◌+◌, ◌-◌, ◌<◌, ◌≤◌, Bool, true, false, Ok, Err, Result, sym, refl, ap, ◌∙◌, arith}
+use Rattle.std.proofs.Common.{◌≡◌, ℕ, suc, ◌+◌, ◌-◌, ◌<◌, ◌≤◌, Bool, true, false, IsErrAnd, Ok, Err, Result, sym, refl, ap, ◌∙◌, arith}
 use Rattle.fault.specs.declared.fault.Fault.{Fault}
 use Rattle.meaning.specs.Checks.{require, bind, through}
 
@@ -34,3 +34,8 @@ passed false f next x e = absurd (let z : ◌≡◌ {A = ℕ} 0 1 = cc in omega 
 pub both : {A B : Type 0} (r : Result A Fault) (next : A → Result B Fault) (y : B) → bind r next ≡ Ok y → (x : A) × (r ≡ Ok x) × (next x ≡ Ok y)
 both (Ok x) next y e = (x, refl, e)
 both (Err f) next y e = absurd (let z : ◌≡◌ {A = ℕ} 0 1 = cc in omega arith)
+
+-- what a `?` hands on is the fault that the call before it answered
+pub handed : {T : Type 0} {x : Fault} (r : Result T Fault) → IsErrAnd r (λ y. y ≡ x) → r ≡ Err x
+handed (Ok t) h = absurd h
+handed (Err y) h = ap Err h

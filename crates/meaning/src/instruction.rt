@@ -1,7 +1,7 @@
 //! The instructions of postfix code, the words of every definition and of the code alike.
 
 /// What an instruction computes from the operands that it pops.
-#[derive(Clone, Copy)]
+#[derive(Clone, Copy, PartialEq, Eq, Debug)]
 pub enum Operator {
     Add,
     Subtract,
@@ -18,7 +18,7 @@ pub enum Operator {
 }
 
 /// One instruction. Each pushes one result.
-#[derive(Clone, Copy)]
+#[derive(Clone, Copy, PartialEq, Eq, Debug)]
 pub enum Instruction {
     Constant(i32),
     Own(u8),

@@ -4,8 +4,10 @@
 ghost use Rattle.meaning.specs.Exact.{Sound, Complete, Single};
 ghost use Rattle.meaning.specs.FlowList.{Listed, Emptied};
 
+mod checks;
 mod instruction;
 
+pub use checks::through;
 pub use instruction::{Instruction, Operator};
 
 /// Reading accepts exactly the files of well-formed books and answers that book, so no two files yield one book.
