@@ -7,3 +7,6 @@ pub mod Spelling
 pub mod Fitting
 pub mod Reads
 pub mod Parts
+pub mod Sides
+pub mod Rights
+pub mod Runnable

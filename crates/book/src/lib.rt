@@ -5,10 +5,13 @@ mod action;
 mod book;
 mod bytes;
 mod cells;
+mod checked;
+mod checking;
 mod draft;
 mod expressions;
 mod fields;
 mod fill;
+mod gathering;
 mod header;
 mod layout;
 mod offsets;
@@ -18,13 +21,19 @@ mod reader;
 mod refusal;
 mod rule;
 mod scope;
+mod sides;
 mod smallest;
 mod spelling;
 mod used;
 
 pub use book::{Book, CELLS, CLAUSES, DEVICES, RESOURCES, RULES};
+pub use checked::{
+    CheckedAction, CheckedBook, CheckedClause, CheckedCode, CheckedRule, CheckedSlot,
+};
 pub use draft::Draft;
+pub use gathering::{reads, with_member};
 pub use opcode::front;
 pub use part::Part;
 pub use reader::read;
 pub use rule::{Action, Clause, Kind, Rule, SLOTS, Slot, Span};
+pub use sides::Side;

@@ -9,8 +9,8 @@ use Rattle.book.specs.Means.{code_of, spanned, slot_means, action_means, means}
 use Rattle.meaning.specs.Book as meant
 use Rattle.meaning.specs.Expression.{Scope, right}
 use Rattle.meaning.specs.WellFormed.{every, distinct, right_action}
-use Rattle.verdict.specs.Rights.{RightAction}
-use Rattle.verdict.proofs.Rightness.{every_at}
+use Rattle.book.specs.Rights.{RightAction}
+use Rattle.book.proofs.Rightness.{every_at}
 
 module _ (b : Book) (a : Action) (h : RightAction b a) (used : List Slot) (is : used ≡ take a.count a.slots) where
   abbrev pub scope : Scope

@@ -14,10 +14,10 @@ use Rattle.meaning.specs.Expression.{Scope, right, right_from, decoded}
 use Rattle.meaning.specs.Flow.{slots_of}
 use Rattle.runs.specs.Update.{rule_at}
 use Rattle.verdict.specs.declared.part.Part.TheVariants as variants
-use Rattle.verdict.specs.Rights.{RightAction, RightRule, Numbered}
-use Rattle.verdict.proofs.Numbering.{same_length}
-use Rattle.verdict.proofs.Rightness.{action_right}
-use Rattle.evaluation.specs.Runnable.{Runnable}
+use Rattle.book.specs.Rights.{RightAction, RightRule, Numbered}
+use Rattle.book.proofs.Numbering.{same_length}
+use Rattle.book.proofs.Rightness.{action_right}
+use Rattle.book.specs.Runnable.{Runnable}
 
 abbrev pub no_slot : Slot
 no_slot = record { target = 0; value = record { from = 0; size = 0 } }

@@ -5,7 +5,7 @@ ghost use Rattle.meaning.specs.WellFormed.{WellFormed};
 ghost use Rattle.runs.specs.Clauses as meant;
 ghost use Rattle.runs.specs.Clauses.{concerns};
 ghost use Rattle.book.specs.Means.{code_of, clause_means, means};
-ghost use Rattle.verdict.specs.Rights.{RightClause};
+ghost use Rattle.book.specs.Rights.{RightClause};
 ghost use Rattle.evaluation.specs.Posted.{posted};
 ghost use Rattle.discovery.specs.Plans.{Ready};
 

@@ -11,7 +11,7 @@ ghost use Rattle.runs.specs.Discovery.{place, settled};
 ghost use Rattle.runs.specs.Update.{evaluated, lane_of};
 ghost use Rattle.book.specs.Means.{code_of, action_means, rule_means, means};
 ghost use Rattle.book.specs.Parts as parts;
-ghost use Rattle.verdict.specs.Rights.{RightAction, RightRule, Numbered};
+ghost use Rattle.book.specs.Rights.{RightAction, RightRule, Numbered};
 ghost use Rattle.lanes.specs.Updates.{update_means};
 ghost use Rattle.lanes.specs.View.{view};
 ghost use Rattle.discovery.specs.Forming.{by_default, by_task_at, by_task_for, by_task, by_rule};

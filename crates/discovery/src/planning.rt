@@ -8,7 +8,7 @@ ghost use Rattle.runs.specs.Promises.{Accepted};
 ghost use Rattle.runs.specs.Update.{level_of};
 ghost use Rattle.levels.specs.Scales.{scaled, scaled_meets};
 ghost use Rattle.book.specs.Means.{code_of, action_means, rule_means, means};
-ghost use Rattle.verdict.specs.Rights.{RightAction, RightRule};
+ghost use Rattle.book.specs.Rights.{RightAction, RightRule};
 ghost use Rattle.discovery.specs.Plans.{Comparable, Greatest, RouteOf, Routed, Laned, no_route, Ready, Planned};
 
 use super::members::{lowest, without};

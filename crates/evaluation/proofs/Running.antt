@@ -7,7 +7,7 @@ use Rattle.meaning.specs.declared.instruction.Instruction.TheVariants.{Constant,
 use Rattle.meaning.specs.Expression.{Scope, decoded, deepened, named, pops, right_from, pushed, stack_after, value}
 use Rattle.book.specs.Fronts.{taken}
 use Rattle.book.proofs.Walk.{Took, spelt, spells_nothing}
-use Rattle.evaluation.specs.Runnable.{Runnable}
+use Rattle.book.specs.Runnable.{Runnable}
 
 -- some code is right at a depth, in some scope
 pub record RightAt (code : List ℕ) (depth : ℕ) : Type 0 where

@@ -4,7 +4,7 @@ ghost use Rattle.meaning.specs.Expression as meant;
 ghost use Rattle.meaning.specs.Expression.{decoded, deepened, pushed};
 ghost use Rattle.runs.specs.Table.{cell, value_at};
 ghost use Rattle.evaluation.specs.Posted.{posted};
-ghost use Rattle.evaluation.specs.Runnable.{Runnable};
+ghost use Rattle.book.specs.Runnable.{Runnable};
 ghost use Rattle.evaluation.specs.Stacks.{stacked};
 
 use super::cells::cell_with;

@@ -3,6 +3,4 @@ pub mod Buffers
 pub mod Folds
 pub mod Forbidding
 pub mod Judged
-pub mod Numbering
 pub mod Putting
-pub mod Rightness

@@ -5,7 +5,8 @@ use Rattle.std.proofs.lemmas.List.Elements.{filter-append}
 use Rattle.std.proofs.lemmas.List.{length-append}
 use Rattle.meaning.specs.Flow.{Flow}
 use Rattle.meaning.specs.FlowList.{flow_bytes, flows_bytes}
-use Rattle.verdict.specs.Puts.{placed, Put}
+use Rattle.verdict.specs.declared.flow_buffer.FlowBuffer.{FlowBuffer}
+use Rattle.verdict.specs.Puts.{placed, Put, PutInto}
 use Rattle.verdict.proofs.Blocks.{joined_one}
 
 placed-append : (xs : List ℕ) (at : ℕ) (ys zs : List ℕ) → placed xs at (ys ++ zs) ≡ placed (placed xs at ys) (at + length ys) zs
@@ -23,34 +24,40 @@ pub bytes_length : (fs : List Flow) → length (flows_bytes fs) ≡ 5 * length f
 bytes_length [] = refl
 bytes_length (f ∷ fs) = omega (arith, bytes_length fs)
 
-pub put_none : (xs : List ℕ) (at : ℕ) → Put xs xs at at []
+none : (xs : List ℕ) (at : ℕ) → Put xs xs at at []
 unfolding placed
-put_none xs at = record { bytes = refl; ends = omega arith }
+none xs at = record { bytes = refl; ends = omega arith }
 
-pub put_both : {xs ys zs : List ℕ} {at mid end : ℕ} {fs gs : List Flow} → Put xs ys at mid fs → Put ys zs mid end gs → Put xs zs at end (fs ++ gs)
-put_both {xs} {ys} {zs} {at} {mid} {end} {fs} {gs} p q =
+both : {xs ys zs : List ℕ} {at mid end : ℕ} {fs gs : List Flow} → Put xs ys at mid fs → Put ys zs mid end gs → Put xs zs at end (fs ++ gs)
+both {xs} {ys} {zs} {at} {mid} {end} {fs} {gs} p q =
     let from : mid ≡ at + length (flows_bytes fs) = omega (arith, p.ends, bytes_length fs) in
     record {
       bytes = q.bytes ∙ (λ i. placed (p.bytes i) (from i) (flows_bytes gs)) ∙ sym (placed-append xs at (flows_bytes fs) (flows_bytes gs)) ∙ ap (placed xs at) (sym (bytes-append fs gs));
       ends = omega (arith, p.ends, q.ends, length-append fs gs);
     }
 
--- flows that are the same list were put as well
-pub put_same : {xs ys : List ℕ} {at end : ℕ} {fs gs : List Flow} → fs ≡ gs → Put xs ys at end fs → Put xs ys at end gs
-put_same {xs} {ys} {at} {end} e p = subst (Put xs ys at end) e p
+pub put_none : (x : FlowBuffer) → PutInto x x []
+put_none x = record { put = none x.out.now x.at; lent = refl }
 
--- a buffer and an end that are the same
-pub put_at : {xs ys zs : List ℕ} {at mid end : ℕ} {fs : List Flow} → zs ≡ ys → end ≡ mid → Put xs ys at mid fs → Put xs zs at end fs
-put_at e h p = record { bytes = e ∙ p.bytes; ends = h ∙ p.ends }
+pub put_both : {x y z : FlowBuffer} {fs gs : List Flow} → PutInto x y fs → PutInto y z gs → PutInto x z (fs ++ gs)
+put_both p q = record { put = both p.put q.put; lent = q.lent ∙ p.lent }
+
+-- flows that are the same list were put as well
+pub put_same : {x y : FlowBuffer} {fs gs : List Flow} → fs ≡ gs → PutInto x y fs → PutInto x y gs
+put_same {x} {y} e p = subst (PutInto x y) e p
+
+-- a buffer that is the same
+pub put_at : {x y z : FlowBuffer} {fs : List Flow} → z ≡ y → PutInto x y fs → PutInto x z fs
+put_at {x} {y} {z} {fs} e p = subst (λ b. PutInto x b fs) (sym e) p
 
 -- what a filter keeps of a list, and then of another
-pub put-append : (p : Flow → Bool) (fs gs : List Flow) {xs ys zs : List ℕ} {at mid end : ℕ} → Put xs ys at mid (filter p fs) → Put ys zs mid end (filter p gs) → Put xs zs at end (filter p (fs ++ gs))
+pub put-append : (p : Flow → Bool) (fs gs : List Flow) {x y z : FlowBuffer} → PutInto x y (filter p fs) → PutInto y z (filter p gs) → PutInto x z (filter p (fs ++ gs))
 put-append p fs gs first second = put_same (sym (filter-append p fs gs)) (put_both first second)
 
 -- what it keeps of the first block of a row, and then of the others
-pub put_first : (p : Flow → Bool) (f : ℕ → List Flow) (a n : ℕ) {xs ys zs : List ℕ} {at mid end : ℕ} → Put xs ys at mid (filter p (f a)) → Put ys zs mid end (filter p (flat_map f (range_with_len (a + 1) n))) → Put xs zs at end (filter p (flat_map f (range_with_len a (suc n))))
+pub put_first : (p : Flow → Bool) (f : ℕ → List Flow) (a n : ℕ) {x y z : FlowBuffer} → PutInto x y (filter p (f a)) → PutInto y z (filter p (flat_map f (range_with_len (a + 1) n))) → PutInto x z (filter p (flat_map f (range_with_len a (suc n))))
 put_first p f a n first second = put-append p (f a) (flat_map f (range_with_len (a + 1) n)) first second
 
 -- what it keeps of a row, and then of its next block
-pub put_next : (p : Flow → Bool) (f : ℕ → List Flow) (n : ℕ) {xs ys zs : List ℕ} {at mid end : ℕ} → Put xs ys at mid (filter p (flat_map f (range_with_len 0 n))) → Put ys zs mid end (filter p (f n)) → Put xs zs at end (filter p (flat_map f (range_with_len 0 (n + 1))))
+pub put_next : (p : Flow → Bool) (f : ℕ → List Flow) (n : ℕ) {x y z : FlowBuffer} → PutInto x y (filter p (flat_map f (range_with_len 0 n))) → PutInto y z (filter p (f n)) → PutInto x z (filter p (flat_map f (range_with_len 0 (n + 1))))
 put_next p f n first second = put_same (ap (filter p) (joined_one f n)) (put-append p (flat_map f (range_with_len 0 n)) (f n) first second)

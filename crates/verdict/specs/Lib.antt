@@ -1,6 +1,5 @@
-pub mod Sides
-pub mod Rights
 pub mod Puts
 pub mod Parts
 pub mod Rows
 pub mod Verdicts
+pub mod Kinds

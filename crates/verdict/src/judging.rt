@@ -8,7 +8,7 @@ ghost use Rattle.verdict.specs.Verdicts.{judged, Listing, Judgement};
 use super::accepted::Accepted;
 use super::levels_known::levels_known;
 use super::listing::put_flows;
-use book::{Book, Draft};
+use book::{Book, CheckedBook, Draft};
 use fault::{CallCause, Fault, Layer, OrderCause};
 use levels::{Order, Scale, written_out};
 
@@ -19,28 +19,28 @@ const FLOW: usize = 5;
 pub fn flows<O: Order>(draft: &Draft, order: &O, out: &mut [u8]) -> Result<usize, Fault>
     ensures { Listing (O.Order.ranks order.now) (means draft.now.book) out.old out.new result }
 {
-    let book = draft.book();
+    let book = draft.checked();
     let scale = written_out(order);
-    levels_known(book, &scale)?;
+    levels_known(&book, &scale)?;
     let mut nothing = [0; 0];
-    let needed = put_flows(book, &scale, &mut nothing);
+    let needed = put_flows(&scale, &book, &mut nothing);
     if needed > out.len() {
         return Err(Fault {
             layer: Layer::Call(CallCause::Buffer),
             place: (needed as u32, out.len() as u32),
         });
     }
-    Ok(put_flows(book, &scale, out))
+    Ok(put_flows(&scale, &book, out))
 }
 
 /// The verdict on a book under an order that is written out.
 fn verdict(draft: &Draft, scale: &Scale) -> Result<(), Fault>
     ensures { result ≡ judged (scaled scale.now) (means draft.now.book) }
 {
-    let book = draft.book();
-    levels_known(book, scale)?;
+    let book = draft.checked();
+    levels_known(&book, scale)?;
     let mut first = [0; FLOW];
-    if put_flows(book, scale, &mut first) > 0 {
+    if put_flows(scale, &book, &mut first) > 0 {
         return Err(Fault {
             layer: Layer::Order(OrderCause::Flow),
             place: (u32::from(first[0]), u32::from(first[2])),
@@ -80,5 +80,12 @@ impl<O> Accepted<O> {
         ensures { result.now ≡ self.now.draft.book }
     {
         self.draft.book()
+    }
+
+    /// The accepted book, which is well formed.
+    pub fn checked(&self) -> CheckedBook<'_>
+        ensures { result.book.now ≡ self.now.draft.book }
+    {
+        self.draft.checked()
     }
 }

@@ -1,98 +1,64 @@
 //! Where a part can land, and which clauses watch it.
 ghost use Rattle.std.specs.Prelude.{◌≡◌, ◌<◌};
-ghost use Rattle.meaning.specs.Book.{cells_of};
 ghost use Rattle.meaning.specs.Flow as meant;
-ghost use Rattle.meaning.specs.WellFormed.{WellFormed};
 ghost use Rattle.book.specs.Means.{code_of, rule_means, means};
-ghost use Rattle.verdict.specs.Parts as parts;
+ghost use Rattle.book.specs.Parts.{number};
 ghost use Rattle.verdict.specs.Parts.{SetsOf};
-ghost use Rattle.verdict.specs.Rights.{RightRule};
 
-use super::gather::{both_reads, reads, received, targets};
-use super::part::{Part, PartSets};
-use super::side::Side;
-use book::{Action, Book, Kind, Rule};
-
-impl Part {
-    /// The number of a part in the list of flows.
-    pub fn number(self) -> u8
-        ensures { result ≡ parts.number self }
-    {
-        match self {
-            Part::Default => 0,
-            Part::Task => 1,
-        }
-    }
-
-    /// The action of a part.
-    pub fn action(self, rule: &Rule) -> &Action
-        ensures { result.now ≡ parts.action_of rule.now self }
-    {
-        match self {
-            Part::Default => &rule.defaults,
-            Part::Task => &rule.tasks,
-        }
-    }
-}
-
-/// The set of a device's cells.
-fn cells_at(book: &Book, device: u8) -> u32
-    ensures { result ≡ cells_of (means book.now) device }
-{
-    let cells = book.used_cells();
-    let device = usize::from(device);
-    if device < cells.len() {
-        cells[device]
-    } else {
-        0
-    }
-}
+use super::gather::{both_reads, received, targets};
+use super::part_sets::PartSets;
+use book::{CheckedClause, CheckedRule, Kind, Part, Side};
 
 /// Whether a part can land on a device. `received` is what a remote task needs of its receiver.
-pub fn lands(book: &Book, rule: &Rule, part: Part, received: u32, device: u8) -> bool
-    requires { (device < 16) × (received ≡ meant.received (rule_means (code_of book.now) rule.now)) }
-    ensures { result ≡ meant.lands (means book.now) (rule_means (code_of book.now) rule.now) (parts.number part) device }
+pub fn lands(rule: &CheckedRule<'_>, part: Part, received: u32, device: u8) -> bool
+    requires near { device < 16 }
+    requires received { received ≡ meant.received (rule_means (code_of rule.now.book.now) rule.now.rule.now) }
+    ensures { result ≡ meant.lands (means rule.now.book.now) (rule_means (code_of rule.now.book.now) rule.now.rule.now) (number part) device }
 {
-    match (part, rule.kind) {
+    match (part, rule.rule.kind) {
         (Part::Task, Kind::Remote) => {
-            let cells = cells_at(book, device);
-            received & cells == received && rule.carriers != 1 << device
+            let cells = rule.book.cells_of(usize::from(device));
+            received & cells == received && rule.rule.carriers != 1 << device
         }
-        _ => (rule.carriers >> device) % 2 == 1,
+        _ => (rule.rule.carriers >> device) % 2 == 1,
     }
 }
 
-/// What the clauses that watch a part read.
-fn watched(book: &Book, rule: &Rule, part: Part, set: u32) -> u32
-    requires { (WellFormed (means book.now)) × ((RightRule book.now rule.now) × (set ≡ meant.set_by 0 (meant.slots_of (rule_means (code_of book.now) rule.now) (parts.number part)))) }
-    ensures { result ≡ meant.watched (means book.now) (rule_means (code_of book.now) rule.now) (parts.number part) 0 (means book.now).clauses }
+/// What the clauses that watch a part read; `set` has the targets of the part.
+fn watched(rule: &CheckedRule<'_>, part: Part, set: u32) -> u32
+    requires { set ≡ meant.set_by 0 (meant.slots_of (rule_means (code_of rule.now.book.now) rule.now.rule.now) (number part)) }
+    ensures { result ≡ meant.watched (means rule.now.book.now) (rule_means (code_of rule.now.book.now) rule.now.rule.now) (number part) 0 (means rule.now.book.now).clauses }
 {
-    let received = received(book, rule);
+    let received = received(rule);
     let mut all = 0;
-    for clause in book.used_clauses() {
-        let code = book.code_of(clause.test);
-        if reads(0, code, Side::Own) & set != 0
-            && lands(book, rule, part, received, clause.device)
+    for (number, clause) in rule.book.used_clauses().iter().enumerate() {
+        let clause = CheckedClause {
+            book: rule.book,
+            number: number as u8,
+            clause,
+        };
+        let test = clause.test();
+        if test.reads(0, Side::Own) & set != 0
+            && lands(rule, part, received, clause.clause.device)
         {
-            all = reads(all, code, Side::Own);
+            all = test.reads(all, Side::Own);
         }
     }
     all
 }
 
 /// The sets of a part.
-pub(crate) fn sets_of(book: &Book, rule: &Rule, part: Part) -> PartSets
-    requires { (WellFormed (means book.now)) × (RightRule book.now rule.now) }
-    ensures { SetsOf (means book.now) (rule_means (code_of book.now) rule.now) (parts.number part) result }
+pub(crate) fn sets_of(rule: &CheckedRule<'_>, part: Part) -> PartSets
+    ensures { SetsOf (means rule.now.book.now) (rule_means (code_of rule.now.book.now) rule.now.rule.now) (number part) result }
 {
-    let targets = targets(book, 0, part.action(rule));
+    let targets = targets(0, &rule.action(part));
     PartSets {
         targets,
-        events: rule.events,
+        events: rule.rule.events,
         condition: match part {
             Part::Default => 0,
-            Part::Task => both_reads(0, book.code_of(rule.condition)),
+            Part::Task => both_reads(0, &rule.condition()),
         },
-        watched: watched(book, rule, part, targets),
+        watched: watched(rule, part, targets),
     }
 }

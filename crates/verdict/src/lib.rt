@@ -2,19 +2,21 @@
 #![tactic(auto)]
 
 mod accepted;
+mod case;
+mod flow_buffer;
+mod flow_kind;
 mod gather;
 mod judging;
+mod kind_number;
 mod landing;
 mod levels_known;
 mod listing;
-mod part;
+mod part_sets;
 mod put;
 mod row;
-mod side;
 
 pub use accepted::Accepted;
-pub use gather::{reads, received, targets};
+pub use flow_kind::FlowKind;
+pub use gather::{received, targets};
 pub use judging::{flows, judge, may_judge};
 pub use landing::lands;
-pub use part::Part;
-pub use side::Side;

@@ -1,79 +1,74 @@
 //! Flows put into a buffer, five bytes each, as far as it reaches.
-ghost use Rattle.std.specs.Prelude.{◌≡◌, ◌+◌, ◌^◌, ◌<◌, ◌≤◌, not, ◌&&◌, [], ◌∷◌, filter, slice_index, slice_set};
+ghost use Rattle.std.specs.Prelude.{◌≡◌, ◌+◌, ◌^◌, ◌<◌, ◌≤◌, ◌&&◌, [], ◌∷◌, filter, slice_set};
 ghost use Rattle.meaning.specs.Book.{resources};
+ghost use Rattle.meaning.specs.Flow.{barred};
 ghost use Rattle.meaning.specs.FlowList.{flow, to_target};
 ghost use Rattle.meaning.specs.Sets.{has};
 ghost use Rattle.levels.specs.Scales.{scaled};
 ghost use Rattle.book.specs.Means.{means};
-ghost use Rattle.verdict.specs.Puts.{Put};
+ghost use Rattle.verdict.specs.Kinds.{number};
+ghost use Rattle.verdict.specs.Puts.{PutInto};
 ghost use Rattle.verdict.specs.Rows as meant;
 
+use super::case::Case;
+use super::flow_buffer::FlowBuffer;
 use super::row::Row;
-use book::Book;
-use levels::Scale;
 
-/// Writes a byte, if its place is inside the buffer.
-fn put_byte(out: &mut [u8], at: usize, byte: u8)
-    ensures { out.new ≡ slice_set out.old at byte }
-{
-    if at < out.len() {
-        out[at] = byte;
+impl FlowBuffer<'_> {
+    /// Puts a byte, if its place is inside the buffer.
+    fn put_byte(&mut self, byte: u8)
+        requires { self.old.at < 2 ^ 41 }
+        ensures bytes { self.new.out.now ≡ slice_set self.old.out.now self.old.at byte }
+        ensures next { self.new.at ≡ self.old.at + 1 }
+        ensures lent { self.new.out.ghost_name ≡ self.old.out.ghost_name }
+    {
+        if self.at < self.out.len() {
+            self.out[self.at] = byte;
+        }
+        self.at += 1;
+    }
+
+    /// Puts one flow.
+    fn put(&mut self, row: Row, target: u8, source: u8)
+        requires { self.old.at < 2 ^ 40 }
+        ensures { PutInto self.old self.new (flow row.rule row.part (number row.kind) target source ∷ []) }
+    {
+        self.put_byte(row.rule);
+        self.put_byte(row.part);
+        self.put_byte(row.kind.number());
+        self.put_byte(target);
+        self.put_byte(source);
     }
 }
 
-/// Puts one flow, and answers where the next one goes.
-fn put(out: &mut [u8], at: usize, row: Row, target: u8, source: u8) -> usize
-    requires { at < 2 ^ 40 }
-    ensures { Put out.old out.new at result (flow row.rule row.part row.kind target source ∷ []) }
-{
-    put_byte(out, at, row.rule);
-    put_byte(out, at + 1, row.part);
-    put_byte(out, at + 2, row.kind);
-    put_byte(out, at + 3, target);
-    put_byte(out, at + 4, source);
-    at + 5
-}
-
-/// The level of a resource.
-fn level(levels: &[u8], resource: usize) -> u32
-    ensures { result ≡ slice_index levels.now resource }
-{
-    if resource < levels.len() {
-        u32::from(levels[resource])
-    } else {
-        0
+impl Case<'_> {
+    /// Whether the order does not let a source flow to the target.
+    fn bars(&self, target: u8, source: usize) -> bool
+        ensures { result ≡ barred (scaled self.now.scale.now) (means self.now.book.now) target source }
+    {
+        let from = self.book.level_of(source);
+        let to = self.book.level_of(usize::from(target));
+        !self.scale.at_or_below(from, to)
     }
-}
 
-/// Whether a source is one of `sources`, and the order does not let it flow to the target.
-fn leaks(scale: &Scale, levels: &[u8], sources: u32, target: u8, source: usize) -> bool
-    requires { source < 32 }
-    ensures { result ≡ (has sources source && not ((scaled scale.now).below (slice_index levels.now source) (slice_index levels.now target))) }
-{
-    (sources >> source) % 2 == 1
-        && !scale.at_or_below(level(levels, source), level(levels, usize::from(target)))
-}
+    /// Whether a source is one of `sources`, and the order does not let it flow to the target.
+    fn leaks(&self, sources: u32, target: u8, source: usize) -> bool
+        requires { source < 32 }
+        ensures { result ≡ (has sources source && barred (scaled self.now.scale.now) (means self.now.book.now) target source) }
+    {
+        (sources >> source) % 2 == 1 && self.bars(target, source)
+    }
 
-/// Puts the flows to one target from a set of sources, where the order bars them.
-pub(crate) fn put_target(
-    book: &Book,
-    scale: &Scale,
-    out: &mut [u8],
-    at: usize,
-    row: Row,
-    target: u8,
-    sources: u32,
-) -> usize
-    requires { (at < 2 ^ 39) × (resources (means book.now) ≤ 32) }
-    ensures put { Put out.old out.new at result (filter (meant.leaks (scaled scale.now) (means book.now) sources) (to_target (means book.now) row.rule row.part row.kind target)) }
-    ensures bound { result ≤ at + 160 }
-{
-    let levels = book.used_levels();
-    let mut at = at;
-    for source in 0..levels.len() {
-        if leaks(scale, levels, sources, target, source) {
-            at = put(out, at, row, target, source as u8);
+    /// Puts the flows to one target from a set of sources, where the order bars them.
+    pub(crate) fn put_target(&self, buffer: &mut FlowBuffer<'_>, row: Row, target: u8, sources: u32)
+        requires { buffer.old.at < 2 ^ 39 }
+        ensures put { PutInto buffer.old buffer.new (filter (meant.leaks (scaled self.now.scale.now) (means self.now.book.now) sources) (to_target (means self.now.book.now) row.rule row.part (number row.kind) target)) }
+        ensures bound { buffer.new.at ≤ buffer.old.at + 160 }
+    {
+        for source in 0..self.book.used_levels().len() {
+            if self.leaks(sources, target, source) {
+                buffer.put(row, target, source as u8);
+            }
         }
     }
-    at
 }

@@ -9,8 +9,8 @@ use Rattle.meaning.specs.Flow.{share}
 use Rattle.meaning.specs.WellFormed.{WellFormed}
 use Rattle.runs.specs.Clauses.{holds, concerns}
 use Rattle.runs.specs.Table.{Table}
-use Rattle.verdict.specs.Rights.{Counted}
-use Rattle.verdict.proofs.Numbering.{same_length, clause_at}
+use Rattle.book.specs.Rights.{Counted}
+use Rattle.book.proofs.Numbering.{same_length, clause_at}
 use Rattle.discovery.proofs.Firsts.{fails, found, passed_over, none_left}
 use Rattle.discovery.proofs.clauses.failing.Goals as goal
 

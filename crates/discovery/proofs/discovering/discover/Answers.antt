@@ -9,7 +9,7 @@ use Rattle.lanes.proofs.Views.{view_bounded}
 use Rattle.meaning.specs.WellFormed.{WellFormed}
 use Rattle.runs.specs.Discovery.{settled}
 use Rattle.verdict.proofs.Blocks.{joined_one}
-use Rattle.verdict.proofs.Numbering.{same_length, rule_at}
+use Rattle.book.proofs.Numbering.{same_length, rule_at}
 use Rattle.discovery.specs.Forming.{by_rule}
 use Rattle.discovery.proofs.Formed.{by_rules}
 use Rattle.discovery.proofs.Settling.{settled_none, settled_then}

@@ -4,8 +4,8 @@ use Rattle.book.specs.Means.{code_of, slot_means, action_means}
 use Rattle.book.specs.Parts.{number}
 use Rattle.meaning.specs.Flow.{slots_of}
 use Rattle.runs.specs.Update.{evaluated}
-use Rattle.verdict.specs.Rights.{RightAction}
-use Rattle.verdict.proofs.Numbering.{same_length}
+use Rattle.book.specs.Rights.{RightAction}
+use Rattle.book.proofs.Numbering.{same_length}
 use Rattle.discovery.proofs.Rights.{used_few}
 use Rattle.discovery.proofs.Values.{part_slots, part_right}
 use Rattle.discovery.proofs.forming.update_of.Goals as goal

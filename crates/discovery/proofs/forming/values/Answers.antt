@@ -7,7 +7,7 @@ use Rattle.book.specs.Means.{code_of, spanned, slot_means}
 use Rattle.meaning.specs.Book as meant
 use Rattle.meaning.specs.Expression.{decoded, right}
 use Rattle.runs.specs.Table.{value_at}
-use Rattle.verdict.proofs.Numbering.{same_length}
+use Rattle.book.proofs.Numbering.{same_length}
 use Rattle.discovery.proofs.Filling.{filled_more}
 use Rattle.discovery.proofs.Rights.{scope, used_few, used_right}
 use Rattle.discovery.proofs.Values.{no_slot, runnable, taken_values}

@@ -4,9 +4,9 @@ use Rattle.book.specs.Means.{code_of, clause_means, means}
 use Rattle.meaning.specs.Expression.{decoded, reads}
 use Rattle.meaning.specs.WellFormed.{every}
 use Rattle.runs.specs.Clauses.{clause_at}
-use Rattle.verdict.specs.Sides.{small}
-use Rattle.verdict.proofs.Numbering as numbering
-use Rattle.verdict.proofs.Rightness.{clause_fine}
+use Rattle.book.specs.Sides.{small}
+use Rattle.book.proofs.Numbering as numbering
+use Rattle.book.proofs.Rightness.{clause_fine}
 use Rattle.discovery.proofs.Filling.{filled_more}
 use Rattle.discovery.proofs.planning.clause_reads.Goals as goal
 

@@ -9,7 +9,7 @@ use Rattle.meaning.specs.Book.{resources}
 use Rattle.meaning.specs.Flow.{level}
 use Rattle.runs.specs.Update.{level_of}
 use Rattle.runs.proofs.Sources.{Slotted, slotted}
-use Rattle.verdict.specs.Rights.{RightAction}
+use Rattle.book.specs.Rights.{RightAction}
 use Rattle.discovery.specs.Plans.{Comparable, Greatest}
 use Rattle.discovery.proofs.Meets.{targets_comparable, lane_is, lane_inside, no_slots, some_slots}
 use Rattle.discovery.proofs.planning.lane_of.Goals as goal

@@ -2,7 +2,7 @@
 use Rattle.std.proofs.Common.{◌<◌, take, sym, subst, arith}
 use Rattle.levels.specs.Scales.{scaled_meets}
 use Rattle.book.specs.Means.{code_of, rule_means, means}
-use Rattle.verdict.proofs.Numbering.{same_length, rule_at}
+use Rattle.book.proofs.Numbering.{same_length, rule_at}
 use Rattle.discovery.specs.Plans.{RouteOf, Routed, Laned, no_route}
 use Rattle.discovery.proofs.Filling.{filled_more}
 use Rattle.discovery.proofs.planning.routes.Goals as goal

@@ -5,4 +5,4 @@ use Rattle.verdict.proofs.gather.read_for.Given as goal
 
 abbrev pub invariant-loop-slot : goal.invariant-loop-slot
 invariant-loop-slot l =
-    meant.read_for l.target l.set (map (slot_means (code_of l.book)) (drop l.slot-index l.slot-items)) ≡ meant.read_for l.target l.initial.set (map (slot_means (code_of l.book)) l.slot-items)
+    meant.read_for l.target l.set (map (slot_means (code_of l.action.book.now)) (drop l.slot-index l.slot-items)) ≡ meant.read_for l.target l.initial.set (map (slot_means (code_of l.action.book.now)) l.slot-items)

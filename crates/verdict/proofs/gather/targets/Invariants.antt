@@ -5,4 +5,4 @@ use Rattle.verdict.proofs.gather.targets.Given as goal
 
 abbrev pub invariant-loop-slot : goal.invariant-loop-slot
 invariant-loop-slot l =
-    meant.set_by l.set (map (slot_means (code_of l.book)) (drop l.slot-index l.slot-items)) ≡ meant.set_by l.initial.set (map (slot_means (code_of l.book)) l.slot-items)
+    meant.set_by l.set (map (slot_means (code_of l.action.book.now)) (drop l.slot-index l.slot-items)) ≡ meant.set_by l.initial.set (map (slot_means (code_of l.action.book.now)) l.slot-items)

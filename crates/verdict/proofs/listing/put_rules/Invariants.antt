@@ -1,13 +1,13 @@
-use Rattle.std.proofs.Common.{◌*◌, ◌≤◌, filter}
+use Rattle.std.proofs.Common.{◌+◌, ◌*◌, ◌≤◌, filter}
 use Rattle.std.specs.List.{range_with_len, flat_map}
 use Rattle.meaning.specs.Flow.{forbidden}
 use Rattle.meaning.specs.FlowList.{of_rule}
 use Rattle.levels.specs.Scales.{scaled}
 use Rattle.book.specs.Means.{means}
-use Rattle.verdict.specs.Puts.{Put}
+use Rattle.verdict.specs.Puts.{PutInto}
 use Rattle.verdict.proofs.listing.put_rules.Given as goal
 
 -- the flows of the rules so far are put
 abbrev pub invariant-loop-number : goal.invariant-loop-number
 invariant-loop-number l =
-    Put l.initial.out l.out 0 l.at (filter (forbidden (scaled l.scale) (means l.book)) (flat_map (of_rule (means l.book)) (range_with_len 0 l.number))) × (l.at ≤ 40960 * l.number)
+    PutInto l.fn.buffer l.buffer (filter (forbidden (scaled l.scale) (means l.book)) (flat_map (of_rule (means l.book)) (range_with_len 0 l.number))) × (l.buffer.at ≤ l.fn.buffer.at + 40960 * l.number)

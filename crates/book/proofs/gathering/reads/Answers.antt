@@ -1,0 +1,65 @@
+-- Each instruction that is taken off the front adds what it reads, and the rest of the code what it would alone.
+use Rattle.std.proofs.Common.{◌≡◌, ℕ, ◌-◌, true, List, [], ◌∷◌, Some, None, Option, sym, refl, ap, ◌∙◌, arith}
+use Rattle.std.proofs.lemmas.Bool.{and_parts}
+use Rattle.meaning.specs.declared.instruction.Instruction.{Instruction}
+use Rattle.meaning.specs.Expression as meant
+use Rattle.meaning.specs.Expression.{Expression, Front, front, decoded, decoded_after}
+use Rattle.meaning.specs.WellFormed.{every}
+use Rattle.book.specs.Fronts.{past, taken}
+use Rattle.book.proofs.Walk.{Took, took, spelt, shorter}
+use Rattle.book.specs.Sides.{read_of, reads_of, small, Small}
+use Rattle.book.specs.declared.sides.Side.{Side}
+use Rattle.book.specs.declared.sides.Side.TheVariants as side
+use Rattle.book.proofs.gathering.reads.Goals as goal
+use Rattle.book.proofs.gathering.reads.Goals.{In-Some}
+
+-- an expression reads what its first instruction does, and then the others
+reads_first : (s : Side) (m : ℕ) (i : Instruction) (e : Expression) → reads_of s m (i ∷ e) ≡ reads_of s (read_of s m i) e
+unfolding meant.reads meant.asks
+reads_first side.Own m i e = refl
+reads_first side.Receiver m i e = refl
+
+reads_none : (s : Side) (m : ℕ) → reads_of s m [] ≡ m
+unfolding meant.reads meant.asks
+reads_none side.Own m = refl
+reads_none side.Receiver m = refl
+
+no_front : (b : ℕ) (bs : List ℕ) (o : Option Front) → front (b ∷ bs) ≡ o → None ≡ past (b ∷ bs) o → decoded (b ∷ bs) ≡ []
+unfolding decoded_after
+no_front b bs None e none =
+    ap (λ o. elim o [ None ↦ [] | Some f ↦ f.instruction ∷ decoded_after (f.size - 1) bs ]) e
+no_front b bs (Some f) e none = absurd (let z : ◌≡◌ {A = ℕ} 0 1 = cc in omega arith)
+
+-- code off which nothing can be taken spells nothing
+ended : (bs : List ℕ) → None ≡ taken bs → decoded bs ≡ []
+unfolding decoded_after
+ended [] none = refl
+ended (b ∷ bs) none = no_front b bs (front (b ∷ bs)) refl none
+
+now_took : (c : In-Some) → Took c.loop-instruction.rest.now c.in-Some.instruction c.in-Some.tail.now
+now_took c = took c.loop-instruction.rest.now c.in-Some.instruction c.in-Some.tail.now c.in-Some.ensures
+
+now_small : (c : In-Some) → (small c.in-Some.instruction ≡ true) × Small c.in-Some.tail.now
+unfolding every
+now_small c = and_parts (small c.in-Some.instruction) _ (sym (ap (every small) (spelt (now_took c))) ∙ c.loop-instruction.invariant.1)
+
+pub with_read-set-requires : goal.with_read-set-requires
+with_read-set-requires c = (now_small c).0
+
+pub loop-instruction-preserved : goal.loop-instruction-preserved
+loop-instruction-preserved c =
+    let here = (goal.at.loop-instruction-preserved c).In-Some in
+    let s = c.args.side in
+    let m = c.loop-instruction.set in
+    let tail = decoded c.in-Some.tail.now in
+    let first : reads_of s m (decoded c.loop-instruction.rest.now) ≡ reads_of s (read_of s m c.in-Some.instruction) tail = ap (reads_of s m) (spelt (now_took here)) ∙ reads_first s m c.in-Some.instruction tail in
+    (ap (λ n. reads_of s n tail) c.with_read-set.ensures ∙ sym first ∙ c.loop-instruction.invariant.0, (now_small here).1)
+
+pub loop-instruction-smaller : goal.loop-instruction-smaller
+loop-instruction-smaller c = shorter (now_took (goal.at.loop-instruction-smaller c).In-Some)
+
+pub returns : goal.returns
+returns c =
+    let s = c.args.side in
+    let m = c.loop-instruction.set in
+    sym (reads_none s m) ∙ sym (ap (reads_of s m) (ended c.loop-instruction.rest.now c.in_default.ensures)) ∙ c.loop-instruction.invariant.0

@@ -1,7 +1,0 @@
--- Past the end a write changes nothing.
-use Rattle.std.proofs.Common.{sym, arith}
-use Rattle.std.proofs.lemmas.List.{set_past}
-use Rattle.verdict.proofs.put.put_byte.Goals as goal
-
-pub returns-else-at-out : goal.returns-else-at-out
-returns-else-at-out c = sym (set_past c.args.out.now c.args.at c.args.byte (omega arith))
