@@ -1,5 +1,5 @@
 //! The memory of the lanes.
-ghost use Rattle.std.specs.Prelude.{ℕ, ◌≤◌, slice_index};
+ghost use Rattle.std.specs.Prelude.{◌≤◌};
 ghost use Rattle.runs.specs.Lane.{lane_length, most_lost};
 
 use super::update::Update;
@@ -11,14 +11,27 @@ pub const LANE_LENGTH: usize = 16;
 /// The most updates that wait at all: each lane is full.
 pub const STORE: usize = LANES * LANE_LENGTH;
 
+/// What is kept of a lane beside its records: how many wait, how many found no room, and whether a ticket for the head is out.
+#[derive(Clone, Copy)]
+pub(crate) struct LaneState {
+    pub(crate) waiting: u8,
+    pub(crate) lost: u32,
+    pub(crate) out: bool,
+    ghost short: { waiting ≤ lane_length },
+    ghost counted: { lost ≤ most_lost },
+}
+
+/// The state of a lane in which nothing has happened.
+pub(crate) const IDLE: LaneState = LaneState {
+    waiting: 0,
+    lost: 0,
+    out: false,
+};
+
 /// The lanes. Lane m has the stretch of the store that starts at 16 × m: the first records of it wait, the oldest first, as many
-/// as `waiting` says. `lost` counts those that found no room, and `out` says whether a ticket for the head is out.
+/// as its state says.
 #[derive(Drop)]
 pub struct Lanes {
     pub(crate) store: [Update; STORE],
-    pub(crate) waiting: [u8; LANES],
-    pub(crate) lost: [u32; LANES],
-    pub(crate) out: [bool; LANES],
-    ghost short: { (m : ℕ) → slice_index waiting m ≤ lane_length },
-    ghost counted: { (m : ℕ) → slice_index lost m ≤ most_lost },
+    pub(crate) states: [LaneState; LANES],
 }

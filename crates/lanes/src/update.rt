@@ -1,8 +1,5 @@
 //! Updates, as the lanes hold them.
-use book::Part;
-
-/// The most values of an update: one for each target that a part can have.
-pub const VALUES: usize = 4;
+use book::{Part, SLOTS};
 
 /// A part of a rule, evaluated for a device: the first `count` values, one for each target of the part.
 #[derive(Clone, Copy)]
@@ -11,5 +8,5 @@ pub struct Update {
     pub rule: u8,
     pub part: Part,
     pub count: u8,
-    pub values: [i32; VALUES],
+    pub values: [i32; SLOTS],
 }
