@@ -1,3 +1,2 @@
 pub mod Posted
 pub mod Runnable
-pub mod Stacks
