@@ -1,11 +1,11 @@
 -- Changes, seen at one cell: the last write to it counts, where it is there. Assumes nothing.
-use Rattle.std.proofs.Common.{◌≡◌, ℕ, Bool, ◌&&◌, cond, eqb, List, [], ◌∷◌, reverse, ℤ, Some, None, Option, refl, ap, ◌∙◌, arith}
+use Rattle.std.proofs.Common.{◌≡◌, ℕ, ◌&&◌, cond, eqb, List, [], ◌∷◌, reverse, ℤ, Some, None, Option, refl, arith}
 use Rattle.std.proofs.lemmas.Bool.Decides.{nat_tests}
 use Rattle.std.proofs.lemmas.Grind.{reverse_onto}
 use Rattle.std.proofs.lemmas.List.Folds.{find-append}
 use Rattle.std.specs.List.{find}
 use Rattle.std.specs.Option.{option_map, unwrap_or}
-use Rattle.runs.specs.Table.{Table, renewed, write, written}
+use Rattle.runs.specs.Table.{Table, write, written}
 use Rattle.runs.specs.declared.write.Write.{Write}
 use Rattle.evaluation.specs.declared.changes.Changes.{Changes}
 use Rattle.evaluation.specs.Posted.{posted, writes_of, last_of, overridden}
