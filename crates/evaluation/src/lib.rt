@@ -1,15 +1,13 @@
 //! The value of an expression over a host's cells, and over changes that are not yet written.
 #![tactic(auto)]
 
-mod cells;
 mod changes;
+mod evaluator;
 mod operators;
-mod posting;
+mod preview;
 mod stack;
-mod stacking;
-mod values;
 
-pub use cells::cell_with;
 pub use changes::Changes;
+pub use evaluator::Evaluator;
 pub use operators::{operate, truth};
-pub use values::{evaluate, holds};
+pub use preview::Preview;
