@@ -8,6 +8,7 @@ mod cells;
 mod draft;
 mod expressions;
 mod fields;
+mod file;
 mod fill;
 mod header;
 mod layout;

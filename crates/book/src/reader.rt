@@ -5,8 +5,7 @@ ghost use Rattle.book.specs.Reads.{Read};
 
 use super::cells::cells;
 use super::draft::Draft;
-use super::expressions::expressions;
-use super::fields::fields;
+use super::file::File;
 use super::fill::fill;
 use super::header::header;
 use fault::Fault;
@@ -17,8 +16,9 @@ pub fn read(bytes: &[u8], draft: &mut Draft) -> Result<(), Fault>
     ensures kept { is_ok result ≡ false → draft.new ≡ draft.old }
 {
     let layout = header(bytes)?;
-    fields(bytes, &layout)?;
-    expressions(bytes, &layout)?;
+    let file = File { bytes, layout };
+    file.fields()?;
+    file.expressions()?;
     cells(bytes, &layout)?;
     fill(&mut draft.book, bytes, &layout);
     Ok(())

@@ -3,7 +3,7 @@ use Rattle.std.proofs.Common.{◌≡◌, ℕ, zero, suc, ◌+◌, ◌*◌, ◌<�
 use Rattle.std.proofs.lemmas.Bool.{cases_lt, eq-eqb, ne_eqb, or_from, or_left, or_right}
 use Rattle.meaning.specs.Bytes.{byte_at}
 use Rattle.meaning.specs.Reading.{repeated}
-use Rattle.book.proofs.fields.is_repeated.Goals as goal
+use Rattle.book.proofs.file.File.is_repeated.Goals as goal
 
 found : (bs : List ℕ) (p t j k : ℕ) → byte_at bs (p + 5 * j) ≡ t → j < k → repeated bs p t k ≡ true
 unfolding repeated
@@ -25,7 +25,7 @@ loop-j-preserved c =
 
 pub returns-then-byte-target : goal.returns-then-byte-target
 returns-then-byte-target c =
-    sym (found c.args.bytes.now c.args.at c.args.target c.loop-j.j c.args.k (sym c.byte.ensures ∙ c.if-byte-target.true) c.loop-j-test.true)
+    sym (found c.args.self.now.bytes.now c.args.at c.args.target c.loop-j.j c.args.k (sym c.byte.ensures ∙ c.if-byte-target.true) c.loop-j-test.true)
 
 pub returns : goal.returns
-returns c = let e : c.args.k ≡ c.loop-j.j = omega arith in sym (ap (repeated c.args.bytes.now c.args.at c.args.target) e ∙ c.loop-j.invariant)
+returns c = let e : c.args.k ≡ c.loop-j.j = omega arith in sym (ap (repeated c.args.self.now.bytes.now c.args.at c.args.target) e ∙ c.loop-j.invariant)

@@ -6,7 +6,7 @@ use Rattle.meaning.specs.Layout.{code_from}
 use Rattle.meaning.specs.Parsed.{code_at}
 use Rattle.meaning.specs.Reading.{expression_checked}
 use Rattle.book.specs.Plan.{plan}
-use Rattle.book.proofs.expressions.expression.Goals as goal
+use Rattle.book.proofs.file.File.expression.Goals as goal
 
 pub returns-then-size-lt1 : goal.returns-then-size-lt1
 unfolding expression_checked
@@ -14,16 +14,16 @@ returns-then-size-lt1 c = search rules
 
 pub refusal-requires-in-Some : goal.refusal-requires-in-Some
 refusal-requires-in-Some c =
-    (omega arith, omega (arith, c.in-Some.ensures.bound, ap length c.piece.ensures, length-take c.from-2.result (drop (c.code_from.result + c.from.result) c.args.bytes.now)))
+    (omega arith, omega (arith, c.in-Some.ensures.bound, ap length c.piece.ensures, length-take c.from-2.result (drop (c.code_from.result + c.from.result) c.args.self.now.bytes.now)))
 
 pub returns-in-Some : goal.returns-in-Some
 unfolding expression_checked
 returns-in-Some c =
-    let found : wrong (record { resources = c.args.layout.now.resources; receiver = c.args.receiver }) (code_at c.args.bytes.now (code_from (plan c.args.layout.now)) c.args.at) ≡ Some c.in-Some.inside = cc c.in-Some.ensures.value in
+    let found : wrong (record { resources = c.args.self.now.layout.resources; receiver = c.args.receiver }) (code_at c.args.self.now.bytes.now (code_from (plan c.args.self.now.layout)) c.args.at) ≡ Some c.in-Some.inside = cc c.in-Some.ensures.value in
     sym (rw found (grind (arith, nat_tests)))
 
 pub returns-in-None : goal.returns-in-None
 unfolding expression_checked
 returns-in-None c =
-    let found : wrong (record { resources = c.args.layout.now.resources; receiver = c.args.receiver }) (code_at c.args.bytes.now (code_from (plan c.args.layout.now)) c.args.at) ≡ None = cc c.in-None.ensures.value in
+    let found : wrong (record { resources = c.args.self.now.layout.resources; receiver = c.args.receiver }) (code_at c.args.self.now.bytes.now (code_from (plan c.args.self.now.layout)) c.args.at) ≡ None = cc c.in-None.ensures.value in
     sym (rw found (grind (arith, nat_tests)))
