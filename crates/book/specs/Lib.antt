@@ -1,9 +1,9 @@
 pub mod Plan
 pub mod Fronts
 pub mod Scopes
+pub mod Sides
 pub mod Small
 pub mod Means
 pub mod Spelling
-pub mod Fitting
 pub mod Reads
 pub mod Parts

@@ -7,7 +7,6 @@ ghost use Rattle.book.specs.Scopes.{scoped};
 
 use super::bytes::{byte, piece, two};
 use super::file::File;
-use super::offsets::{CLAUSE, RULE};
 use super::opcode::{front, row_of};
 use super::refusal::refusal;
 use super::scope::Scope;
@@ -106,10 +105,10 @@ impl File<'_> {
         ensures { result ≡ expressions_checked self.now.bytes.now (plan self.now.layout) }
     {
         through(self.layout.rules, (), |i, ()| {
-            self.rule_expressions(self.layout.rules_from() + RULE * i)
+            self.rule_expressions(self.layout.rule_from(i))
         })?;
         through(self.layout.clauses, (), |i, ()| {
-            self.expression(false, self.layout.clauses_from() + CLAUSE * i + 1)
+            self.expression(false, self.layout.clause_from(i) + 1)
         })
     }
 }

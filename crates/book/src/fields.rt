@@ -6,7 +6,6 @@ ghost use Rattle.book.specs.Plan.{plan};
 
 use super::bytes::{byte, four, two};
 use super::file::File;
-use super::offsets::{CLAUSE, RULE};
 use super::refusal::refusal;
 use super::rule::SLOTS;
 use fault::{BookCause, Fault};
@@ -23,10 +22,10 @@ fn some_under(set: u32, count: usize) -> bool
 impl File<'_> {
     /// The mask of a device names only resources.
     fn mask(&self, d: usize) -> Result<(), Fault>
-        requires { d < 16 }
+        requires { d < self.now.layout.devices }
         ensures { result ≡ mask_checked self.now.bytes.now (plan self.now.layout) d tt }
     {
-        let at = self.layout.cells_from() + 4 * d;
+        let at = self.layout.mask_from(d);
         if u64::from(four(self.bytes, at)) >> self.layout.resources != 0 {
             return Err(refusal(BookCause::Field, at, 0));
         }
@@ -143,10 +142,10 @@ impl File<'_> {
     {
         through(self.layout.devices, (), |d, ()| self.mask(d))?;
         let next = through(self.layout.rules, 0, |i, next| {
-            self.rule(self.layout.rules_from() + RULE * i, next)
+            self.rule(self.layout.rule_from(i), next)
         })?;
         let end = through(self.layout.clauses, next, |i, next| {
-            self.clause(self.layout.clauses_from() + CLAUSE * i, next)
+            self.clause(self.layout.clause_from(i), next)
         })?;
         if end != self.layout.room {
             return Err(refusal(

@@ -3,10 +3,8 @@ ghost use Rattle.std.specs.Prelude.{◌≡◌, false, is_ok};
 ghost use Rattle.book.specs.Means.{means};
 ghost use Rattle.book.specs.Reads.{Read};
 
-use super::cells::cells;
 use super::draft::Draft;
-use super::file::File;
-use super::fill::fill;
+use super::file::{File, Parsed, Right};
 use super::header::header;
 use fault::Fault;
 
@@ -19,7 +17,9 @@ pub fn read(bytes: &[u8], draft: &mut Draft) -> Result<(), Fault>
     let file = File { bytes, layout };
     file.fields()?;
     file.expressions()?;
-    cells(bytes, &layout)?;
-    fill(&mut draft.book, bytes, &layout);
+    let parsed = Parsed { file };
+    parsed.cells()?;
+    let right = Right { parsed };
+    right.fill(&mut draft.book);
     Ok(())
 }

@@ -12,9 +12,9 @@ pub returns-then-size-lt1 : goal.returns-then-size-lt1
 unfolding expression_checked
 returns-then-size-lt1 c = search rules
 
-pub refusal-requires-in-Some : goal.refusal-requires-in-Some
-refusal-requires-in-Some c =
-    (omega arith, omega (arith, c.in-Some.ensures.bound, ap length c.piece.ensures, length-take c.from-2.result (drop (c.code_from.result + c.from.result) c.args.self.now.bytes.now)))
+pub refusal-requires-in-Some-clause-second : goal.refusal-requires-in-Some-clause-second
+refusal-requires-in-Some-clause-second c =
+    omega (arith, c.in-Some.ensures.bound, ap length c.piece.ensures, length-take c.from-2.result (drop (c.code_from.result + c.from.result) c.args.self.now.bytes.now))
 
 pub returns-in-Some : goal.returns-in-Some
 unfolding expression_checked

@@ -8,8 +8,8 @@ use Rattle.meaning.specs.Layout.{code_from}
 use Rattle.meaning.specs.Parsed.{slot_at}
 use Rattle.meaning.specs.Sets.{with_member}
 use Rattle.book.specs.Plan.{plan}
-use Rattle.book.proofs.cells.gathered.Goals as goal
-use Rattle.book.proofs.cells.gathered.Goals.{then-targets, else-targets}
+use Rattle.book.proofs.file.File.gathered.Goals as goal
+use Rattle.book.proofs.file.File.gathered.Goals.{then-targets, else-targets}
 
 module _ (targets : Bool) (g : ℕ → meant.Slot) where
   -- what the slots from k on give beside m
@@ -28,19 +28,19 @@ module _ (targets : Bool) (g : ℕ → meant.Slot) where
   ends m n k all h inv = let left : n - k ≡ 0 = omega arith in sym (ap (rest m k) left) ∙ inv
 
 pub loop-k-init : goal.loop-k-init
-loop-k-init c = begins c.args.targets (λ k. slot_at c.args.bytes.now (code_from (plan c.args.layout.now)) (c.args.at + 5 * k)) c.args.set c.args.count
+loop-k-init c = begins c.args.targets (λ k. slot_at c.args.self.now.bytes.now (code_from (plan c.args.self.now.layout)) (c.args.at + 5 * k)) c.args.set c.args.count
 
 pub loop-k-preserved : goal.loop-k-preserved
 loop-k-preserved c =
-    let slot = λ (k : ℕ). slot_at c.args.bytes.now (code_from (plan c.args.layout.now)) (c.args.at + 5 * k) in
+    let slot = λ (k : ℕ). slot_at c.args.self.now.bytes.now (code_from (plan c.args.self.now.layout)) (c.args.at + 5 * k) in
     let here = slot c.loop-k.k in
     let wanted : c.if-targets.set ≡ cond c.args.targets (with_member c.loop-k.set here.target) c.loop-k.set = elim c.if-targets.branch [
       | then-targets w ↦ w.set-is ∙ w.with_member-set.ensures ∙ ap (with_member c.loop-k.set) w.byte.ensures ∙ sym (cond-true _ _ _ w.if-targets.true)
       | else-targets w ↦ w.set-is ∙ sym (cond-false _ _ _ w.if-targets.false)
     ] in
     let read : c.reads-set.result ≡ reads (cond c.args.targets (with_member c.loop-k.set here.target) c.loop-k.set) here.value = c.reads-set.ensures ∙ (λ i. reads (wanted i) (decoded (c.code.ensures i))) in
-    ap (λ m. rest c.args.targets slot m (c.loop-k.k + 1) (c.args.count - (c.loop-k.k + 1))) read ∙ goes_on c.args.targets slot c.loop-k.set c.args.count c.loop-k.k _ c.loop-k-test.true c.loop-k.invariant
+    ap (λ m. rest c.args.targets slot m (c.loop-k.k + 1) (c.args.count - (c.loop-k.k + 1))) read ∙ goes_on c.args.targets slot c.loop-k.set c.args.count c.loop-k.k _ (omega arith) c.loop-k.invariant
 
 pub returns : goal.returns
 returns c =
-    ends c.args.targets (λ k. slot_at c.args.bytes.now (code_from (plan c.args.layout.now)) (c.args.at + 5 * k)) _ c.args.count c.loop-k.k _ c.loop-k-test.false c.loop-k.invariant
+    ends c.args.targets (λ k. slot_at c.args.self.now.bytes.now (code_from (plan c.args.self.now.layout)) (c.args.at + 5 * k)) _ c.args.count c.loop-k.k _ (omega arith) c.loop-k.invariant
