@@ -1,4 +1,3 @@
-pub mod Exits
 pub mod Printed
 pub mod Walk
 pub mod Filled

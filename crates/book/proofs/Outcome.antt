@@ -5,6 +5,7 @@ use Rattle.meaning.specs.Book.{Book}
 use Rattle.meaning.specs.Bytes.{Bytes, byte_at}
 use Rattle.meaning.specs.Checks.{bind, through}
 use Rattle.meaning.specs.File.{encoded, book_code}
+use Rattle.meaning.specs.Layout as meant
 use Rattle.meaning.specs.Layout.{layout, rules_from, room}
 use Rattle.meaning.specs.Parsed.{spelt}
 use Rattle.meaning.specs.Reading.{Verdict, mask_checked, rule_checked, head_checked, fields_checked, expressions_checked, cells_checked, checked, reading}
@@ -17,9 +18,17 @@ use Rattle.meaning.proofs.Sizes.{code_fits}
 use Rattle.meaning.proofs.Sound.{sound}
 use Rattle.meaning.proofs.SoundRules.{head_right}
 use Rattle.book.specs.declared.layout.Layout.{Layout}
-use Rattle.book.specs.Fitting.{Fitting}
 use Rattle.book.specs.Plan.{plan, Framed}
 use Rattle.book.specs.Reads.{outcome, left, Read}
+
+-- what lets the tables of the code hold a file
+pub record Fitting (bs : List ℕ) (l : meant.Layout) : Type 0 where
+  -- the layout is that of the whole file
+  pub whole : l.size ≡ length bs
+  -- the code has its table
+  pub short : room l ≤ 20480
+  -- no action has more than four slots
+  pub four : (i : ℕ) → i < l.rules → (byte_at bs (rules_from l + 53 * i + 7) ≤ 4) × (byte_at bs (rules_from l + 53 * i + 8) ≤ 4)
 
 -- a check that fails is what reading answers
 pub answered : (bs : List ℕ) (f : Fault) → checked bs (layout bs) ≡ Err f → reading bs ≡ Err f

@@ -21,7 +21,8 @@ use Rattle.book.specs.declared.part.Part.TheVariants.{Default, Task}
 use Rattle.book.specs.Parts.{action_of}
 use Rattle.book.specs.Rights.{widest, RightCode, RightSlot, RightAction, RightRule, RightClause}
 use Rattle.book.specs.Runnable.{Runnable}
-use Rattle.book.specs.Sides.{small, Small}
+use Rattle.book.specs.Sides.{Small}
+use Rattle.book.proofs.Smallness.{right_small}
 
 -- what holds of each element's image holds of that of the one at k
 pub every_at : {X Y : Type 0} (p : Y → Bool) (f : X → Y) (xs : List X) (k : ℕ) (d : X) → every p (map f xs) ≡ true → k < length xs → p (f (get_or xs k d)) ≡ true
@@ -73,21 +74,8 @@ module _ (s : Scope) (few : s.resources ≤ 32) where
   right_code code h =
       from_wider s (widest 32) few refl 0 (decoded code) (and_parts (right_from s 0 (decoded code)) _ h).0
 
-named_small : (i : Instruction) → named (widest 32) i ≡ true → small i ≡ true
-named_small (Constant v) h = refl
-named_small (Own r) h = h
-named_small (Receiver r) h = (and_parts (ltb r 32) true h).0
-named_small (Apply o) h = refl
-
-from_small : (depth : ℕ) (e : Expression) → right_from (widest 32) depth e ≡ true → every small e ≡ true
-unfolding right_from every
-from_small depth [] h = refl
-from_small depth (i ∷ e) h =
-    let (stands, more) = and_parts (may_stand (widest 32) depth i) (right_from (widest 32) (deepened depth i) e) h in
-    and_from (small i) (every small e) (named_small i (and_parts (named (widest 32) i) _ stands).0) (from_small (deepened depth i) e more)
-
 pub code_small : (code : List ℕ) → RightCode code → Small code
-code_small code h = from_small 0 (decoded code) h
+code_small code h = right_small (widest 32) (omega arith) 0 (decoded code) h
 
 pub code_runnable : (code : List ℕ) → RightCode code → Runnable code
 code_runnable code h = record { scope = widest 32; right = h }

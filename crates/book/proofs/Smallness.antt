@@ -1,6 +1,6 @@
 -- Code that was checked reads only resources, and a used slot that was checked sets one. There are at most 32 of them.
 -- Assumes nothing.
-use Rattle.std.proofs.Common.{◌≡◌, ℕ, ◌+◌, ◌*◌, ◌<◌, ◌≤◌, Bool, true, false, ◌&&◌, eqb, leb, List, [], ◌∷◌, Ok, refl, arith}
+use Rattle.std.proofs.Common.{◌≡◌, ℕ, ◌+◌, ◌*◌, ◌<◌, ◌≤◌, Bool, true, false, ◌&&◌, eqb, ltb, leb, List, [], ◌∷◌, Ok, refl, arith}
 use Rattle.std.proofs.lemmas.Bool.{ltb-true, lt-ltb, and_parts, and_from}
 use Rattle.meaning.specs.declared.instruction.Instruction.{Instruction}
 use Rattle.meaning.specs.declared.instruction.Instruction.TheVariants.{Constant, Own, Receiver, Apply}
@@ -16,16 +16,17 @@ use Rattle.meaning.proofs.Loops.{each}
 use Rattle.meaning.proofs.Rows.{passed, both}
 use Rattle.meaning.proofs.SoundActions.{part_bytes, no_fault, slot_used}
 use Rattle.meaning.proofs.SoundRules.{head_right}
-use Rattle.book.specs.Small.{small, Reads, Slots, Rules}
+use Rattle.book.specs.Sides.{small, Small}
+use Rattle.book.specs.Small.{Slots, Rules}
 
 module _ (s : Scope) (few : s.resources ≤ 32) where
   named_small : (i : Instruction) → named s i ≡ true → small i ≡ true
   named_small (Constant v) h = refl
   named_small (Own r) h = lt-ltb r 32 (omega (arith, ltb-true r s.resources h))
-  named_small (Receiver r) h = refl
+  named_small (Receiver r) h = lt-ltb r 32 (omega (arith, ltb-true r s.resources (and_parts (ltb r s.resources) s.receiver h).0))
   named_small (Apply o) h = refl
 
-  right_small : (depth : ℕ) (e : Expression) → right_from s depth e ≡ true → every small e ≡ true
+  pub right_small : (depth : ℕ) (e : Expression) → right_from s depth e ≡ true → every small e ≡ true
   unfolding right_from every
   right_small depth [] h = refl
   right_small depth (i ∷ e) h =
@@ -34,7 +35,7 @@ module _ (s : Scope) (few : s.resources ≤ 32) where
 
 module _ (bs : List ℕ) (l : Layout) (fit : Bytes bs) (few : l.resources ≤ 32) where
   -- the code that the pair at p names
-  code_small : (receiver : Bool) (p : ℕ) → expression_checked bs l receiver p ≡ Ok tt → Reads (code_at bs (code_from l) p)
+  code_small : (receiver : Bool) (p : ℕ) → expression_checked bs l receiver p ≡ Ok tt → Small (code_at bs (code_from l) p)
   unfolding expression_checked
   code_small receiver p e =
       let scope : Scope = record { resources = l.resources; receiver = receiver } in
@@ -79,7 +80,7 @@ module _ (bs : List ℕ) (l : Layout) (fit : Bytes bs) (few : l.resources ≤ 32
       let values = both (through (λ j _. rule_expressions_checked bs l (place j)) l.rules 0 tt) _ tt f in
       rule_small (place i) rule.0 rule.1 rule.2 (each (λ j _. rule_expressions_checked bs l (place j)) l.rules tt tt values.1 i lt).2
 
-  pub clauses_small : expressions_checked bs l ≡ Ok tt → (i : ℕ) → i < l.clauses → Reads (code_at bs (code_from l) (clauses_from l + 5 * i + 1))
+  pub clauses_small : expressions_checked bs l ≡ Ok tt → (i : ℕ) → i < l.clauses → Small (code_at bs (code_from l) (clauses_from l + 5 * i + 1))
   unfolding expressions_checked
   clauses_small f i lt =
       let tests = both (through (λ j _. rule_expressions_checked bs l (rules_from l + 53 * j)) l.rules 0 tt) _ tt f in

@@ -1,12 +1,11 @@
 pub mod Plan
 pub mod Fronts
 pub mod Scopes
+pub mod Sides
 pub mod Small
 pub mod Means
 pub mod Spelling
-pub mod Fitting
 pub mod Reads
 pub mod Parts
-pub mod Sides
 pub mod Rights
 pub mod Runnable

@@ -1,14 +1,18 @@
 //! From a well-formed book to its parts.
 ghost use Rattle.std.specs.Prelude.{◌≡◌};
 ghost use Rattle.meaning.specs.Bytes.{part};
+ghost use Rattle.meaning.specs.Expression.{decoded};
 ghost use Rattle.book.specs.Means.{code_of};
 ghost use Rattle.book.specs.Parts.{action_of};
+ghost use Rattle.book.specs.Sides.{reads_of};
 
 use super::checked::{
     CheckedAction, CheckedBook, CheckedClause, CheckedCode, CheckedRule, CheckedSlot,
 };
 use super::draft::Draft;
 use super::part::Part;
+use super::sets::reads;
+use super::sides::Side;
 
 impl Draft {
     /// The book that the draft holds, which is well formed.
@@ -16,6 +20,15 @@ impl Draft {
         ensures { result.book.now ≡ self.now.book }
     {
         CheckedBook { book: &self.book }
+    }
+}
+
+impl CheckedCode<'_> {
+    /// The cells of one side that the code reads, beside the members of `set`.
+    pub fn reads(&self, set: u32, side: Side) -> u32
+        ensures { result ≡ reads_of side set (decoded self.now.bytes.now) }
+    {
+        reads(set, self.bytes, side)
     }
 }
 

@@ -1,20 +1,17 @@
 //! Whether the expressions of a book are right, in code order.
 ghost use Rattle.std.specs.Prelude.{◌≡◌, ◌+◌, ◌*◌, ◌^◌, ◌<◌, ◌≤◌, false, length, IfSome};
-ghost use Rattle.meaning.specs.Checks.{through};
 ghost use Rattle.meaning.specs.Expression.{named, wrong};
-ghost use Rattle.meaning.specs.Layout.{rules_from, clauses_from};
 ghost use Rattle.meaning.specs.Reading.{expression_checked, values_checked, rule_expressions_checked, expressions_checked};
 ghost use Rattle.book.specs.Plan.{plan};
 ghost use Rattle.book.specs.Scopes.{scoped};
 
 use super::bytes::{byte, piece, two};
-use super::layout::Layout;
-use super::offsets::{CLAUSE, RULE};
+use super::file::File;
 use super::opcode::{front, row_of};
 use super::refusal::refusal;
 use super::scope::Scope;
 use fault::{BookCause, Fault};
-use meaning::Instruction;
+use meaning::{Instruction, through};
 
 /// The greatest depth of the stack.
 const DEPTH: u8 = 8;
@@ -58,88 +55,60 @@ fn first_wrong(code: &[u8], scope: Scope) -> Option<usize>
     }
 }
 
-/// The expression that the pair at `at` names has 1 to 64 bytes, and each of its instructions may stand.
-fn expression(bytes: &[u8], layout: &Layout, receiver: bool, at: usize) -> Result<(), Fault>
-    requires { at < 2 ^ 16 }
-    ensures { result ≡ expression_checked bytes.now (plan layout.now) receiver at }
-{
-    let from = layout.code_from() + usize::from(two(bytes, at));
-    let size = two(bytes, at + 2);
-    if size < 1 || size > LONGEST {
-        return Err(refusal(BookCause::Expression, from, 0));
+impl File<'_> {
+    /// The expression that the pair at `at` names has 1 to 64 bytes, and each of its instructions may stand.
+    fn expression(&self, receiver: bool, at: usize) -> Result<(), Fault>
+        requires { at < 2 ^ 16 }
+        ensures { result ≡ expression_checked self.now.bytes.now (plan self.now.layout) receiver at }
+    {
+        let from = self.layout.code_from() + usize::from(two(self.bytes, at));
+        let size = two(self.bytes, at + 2);
+        if size < 1 || size > LONGEST {
+            return Err(refusal(BookCause::Expression, from, 0));
+        }
+        let scope = Scope {
+            resources: self.layout.resources,
+            receiver,
+        };
+        match first_wrong(piece(self.bytes, from, usize::from(size)), scope) {
+            Some(inside) => Err(refusal(BookCause::Expression, from, inside)),
+            None => Ok(()),
+        }
     }
-    let scope = Scope {
-        resources: layout.resources,
-        receiver,
-    };
-    match first_wrong(piece(bytes, from, usize::from(size)), scope) {
-        Some(inside) => Err(refusal(BookCause::Expression, from, inside)),
-        None => Ok(()),
+
+    /// The expressions of the used slots of the action at `at`.
+    fn values(&self, receiver: bool, at: usize, count: u8) -> Result<(), Fault>
+        requires { at < 2 ^ 15 }
+        ensures { result ≡ values_checked self.now.bytes.now (plan self.now.layout) receiver at count }
+    {
+        through(
+            usize::from(count),
+            (),
+            |k, ()| self.expression(receiver, at + 5 * k + 1),
+        )
     }
-}
 
-/// The expressions of the used slots of the action at `at`.
-fn values(
-    bytes: &[u8],
-    layout: &Layout,
-    receiver: bool,
-    at: usize,
-    count: usize,
-) -> Result<(), Fault>
-    requires { (at < 2 ^ 15) × (count < 256) }
-    ensures { result ≡ values_checked bytes.now (plan layout.now) receiver at count }
-{
-    for k in 0..count {
-        expression(bytes, layout, receiver, at + 5 * k + 1)?;
+    /// The expressions of the rule at `at`.
+    #[tactic(auto, unfolding(meaning::specs::Reading::rule_expressions_checked))]
+    fn rule_expressions(&self, at: usize) -> Result<(), Fault>
+        requires { at < 2 ^ 14 }
+        ensures { result ≡ rule_expressions_checked self.now.bytes.now (plan self.now.layout) at }
+    {
+        let remote = byte(self.bytes, at + 6) == 1;
+        self.expression(remote, at + 9)?;
+        self.values(false, at + 13, byte(self.bytes, at + 7))?;
+        self.values(remote, at + 33, byte(self.bytes, at + 8))
     }
-    Ok(())
-}
 
-/// The expressions of the rule at `at`.
-fn rule(bytes: &[u8], layout: &Layout, at: usize) -> Result<(), Fault>
-    requires { at < 2 ^ 14 }
-    ensures { result ≡ rule_expressions_checked bytes.now (plan layout.now) at }
-{
-    let remote = byte(bytes, at + 6) == 1;
-    expression(bytes, layout, remote, at + 9)?;
-    values(
-        bytes,
-        layout,
-        false,
-        at + 13,
-        usize::from(byte(bytes, at + 7)),
-    )?;
-    values(
-        bytes,
-        layout,
-        remote,
-        at + 33,
-        usize::from(byte(bytes, at + 8)),
-    )
-}
-
-fn rules(bytes: &[u8], layout: &Layout) -> Result<(), Fault>
-    ensures { result ≡ through (λ i _. rule_expressions_checked bytes.now (plan layout.now) (rules_from (plan layout.now) + 53 * i)) layout.now.rules 0 tt }
-{
-    for i in 0..layout.rules {
-        rule(bytes, layout, layout.rules_from() + RULE * i)?;
+    /// Every expression of the book.
+    pub fn expressions(&self) -> Result<(), Fault>
+        ensures { result ≡ expressions_checked self.now.bytes.now (plan self.now.layout) }
+    {
+        through(self.layout.rules, (), |i, ()| {
+            self.rule_expressions(self.layout.rule_from(i))
+        })?;
+        through(self.layout.clauses, (), |i, ()| {
+            self.expression(false, self.layout.clause_from(i) + 1)
+        })
     }
-    Ok(())
-}
-
-fn clauses(bytes: &[u8], layout: &Layout) -> Result<(), Fault>
-    ensures { result ≡ through (λ i _. expression_checked bytes.now (plan layout.now) false (clauses_from (plan layout.now) + 5 * i + 1)) layout.now.clauses 0 tt }
-{
-    for i in 0..layout.clauses {
-        expression(bytes, layout, false, layout.clauses_from() + CLAUSE * i + 1)?;
-    }
-    Ok(())
-}
-
-/// Every expression of the book.
-pub(crate) fn expressions(bytes: &[u8], layout: &Layout) -> Result<(), Fault>
-    ensures { result ≡ expressions_checked bytes.now (plan layout.now) }
-{
-    rules(bytes, layout)?;
-    clauses(bytes, layout)
 }

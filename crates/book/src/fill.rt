@@ -4,16 +4,18 @@ ghost use Rattle.std.specs.List.{range_with_len};
 ghost use Rattle.meaning.specs.Parsed.{spelt};
 ghost use Rattle.book.specs.Means.{means};
 ghost use Rattle.book.specs.Plan.{plan};
-ghost use Rattle.book.specs.Fitting.{Fitting};
 
 use super::book::Book;
-use super::layout::Layout;
-use super::offsets::{CLAUSE, HEADER, RULE};
+use super::file::{File, Right};
+use super::offsets::{CLAUSE, HEADER, MASK, RULE, START};
 use super::spelling::Spelt;
 
 /// Fills the first `count` entries of a table from the records of `size` bytes that begin at `from`.
 fn fill_table<T: Spelt>(table: &mut [T], bytes: &[u8], from: usize, size: usize, count: usize)
-    requires { (count ≤ length table.old) × ((from < 2 ^ 15) × ((size ≤ 53) × (count ≤ 512))) }
+    requires room { count ≤ length table.old }
+    requires place { from < 2 ^ 15 }
+    requires record { size ≤ 53 }
+    requires few { count ≤ 512 }
     ensures { take count table.new ≡ map (λ k. T.Spelt.spelt bytes.now (from + size * k)) (range_with_len 0 count) }
 {
     for k in 0..count {
@@ -23,52 +25,55 @@ fn fill_table<T: Spelt>(table: &mut [T], bytes: &[u8], from: usize, size: usize,
 
 /// Fills the front of a table with the bytes from `from` on.
 fn fill_code(table: &mut [u8], bytes: &[u8], from: usize)
-    requires { (from ≤ length bytes.now) × (length bytes.now - from ≤ length table.old) }
+    requires inside { from ≤ length bytes.now }
+    requires room { length bytes.now - from ≤ length table.old }
     ensures { take (length bytes.now - from) table.new ≡ drop from bytes.now }
 {
     let code = &bytes[from..];
     table[0..code.len()].copy_from_slice(code);
 }
 
-/// Fills a book from a file in a layout.
-pub(crate) fn fill(book: &mut Book, bytes: &[u8], layout: &Layout)
-    requires { Fitting bytes.now (plan layout.now) }
-    ensures { means book.new ≡ spelt bytes.now (plan layout.now) }
-{
-    book.device_count = layout.devices;
-    book.resource_count = layout.resources;
-    book.cell_count = layout.cells;
-    book.rule_count = layout.rules;
-    book.clause_count = layout.clauses;
-    book.code_size = usize::from(layout.room);
-    fill_table(&mut book.levels, bytes, HEADER, 1, layout.resources);
-    fill_table(
-        &mut book.cells,
-        bytes,
-        layout.cells_from(),
-        4,
-        layout.devices,
-    );
-    fill_table(
-        &mut book.starts,
-        bytes,
-        layout.starts_from(),
-        4,
-        layout.cells,
-    );
-    fill_table(
-        &mut book.rules,
-        bytes,
-        layout.rules_from(),
-        RULE,
-        layout.rules,
-    );
-    fill_table(
-        &mut book.clauses,
-        bytes,
-        layout.clauses_from(),
-        CLAUSE,
-        layout.clauses,
-    );
-    fill_code(&mut book.code, bytes, layout.code_from());
+impl Right<'_> {
+    /// Fills a book with what the file spells.
+    pub fn fill(&self, book: &mut Book)
+        ensures { means book.new ≡ spelt self.now.parsed.file.bytes.now (plan self.now.parsed.file.layout) }
+    {
+        let File { bytes, layout } = self.parsed.file;
+        book.device_count = layout.devices;
+        book.resource_count = layout.resources;
+        book.cell_count = layout.cells;
+        book.rule_count = layout.rules;
+        book.clause_count = layout.clauses;
+        book.code_size = usize::from(layout.room);
+        fill_table(&mut book.levels, bytes, HEADER, 1, layout.resources);
+        fill_table(
+            &mut book.cells,
+            bytes,
+            layout.cells_from(),
+            MASK,
+            layout.devices,
+        );
+        fill_table(
+            &mut book.starts,
+            bytes,
+            layout.starts_from(),
+            START,
+            layout.cells,
+        );
+        fill_table(
+            &mut book.rules,
+            bytes,
+            layout.rules_from(),
+            RULE,
+            layout.rules,
+        );
+        fill_table(
+            &mut book.clauses,
+            bytes,
+            layout.clauses_from(),
+            CLAUSE,
+            layout.clauses,
+        );
+        fill_code(&mut book.code, bytes, layout.code_from());
+    }
 }

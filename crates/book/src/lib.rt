@@ -10,8 +10,8 @@ mod checking;
 mod draft;
 mod expressions;
 mod fields;
+mod file;
 mod fill;
-mod gathering;
 mod header;
 mod layout;
 mod offsets;
@@ -21,6 +21,7 @@ mod reader;
 mod refusal;
 mod rule;
 mod scope;
+mod sets;
 mod sides;
 mod smallest;
 mod spelling;
@@ -31,9 +32,9 @@ pub use checked::{
     CheckedAction, CheckedBook, CheckedClause, CheckedCode, CheckedRule, CheckedSlot,
 };
 pub use draft::Draft;
-pub use gathering::{reads, with_member};
 pub use opcode::front;
 pub use part::Part;
 pub use reader::read;
 pub use rule::{Action, Clause, Kind, Rule, SLOTS, Slot, Span};
+pub use sets::{reads, with_member};
 pub use sides::Side;

@@ -1,5 +1,5 @@
-//! Where each section begins.
-ghost use Rattle.std.specs.Prelude.{◌≡◌};
+//! Where each section begins, and each of its records.
+ghost use Rattle.std.specs.Prelude.{◌≡◌, ◌+◌, ◌*◌, ◌<◌};
 ghost use Rattle.meaning.specs.Layout.{cells_from, starts_from, rules_from, clauses_from, code_from};
 ghost use Rattle.book.specs.Plan.{plan};
 
@@ -7,6 +7,10 @@ use super::layout::Layout;
 
 /// The bytes of a header, after which the levels begin.
 pub const HEADER: usize = 32;
+/// The bytes of a device's mask of cells.
+pub const MASK: usize = 4;
+/// The bytes of a cell's start.
+pub const START: usize = 4;
 /// The bytes of a rule.
 pub const RULE: usize = 53;
 /// The bytes of a clause.
@@ -22,13 +26,13 @@ impl Layout {
     pub fn starts_from(&self) -> usize
         ensures { result ≡ starts_from (plan self.now) }
     {
-        self.cells_from() + 4 * self.devices
+        self.cells_from() + MASK * self.devices
     }
 
     pub fn rules_from(&self) -> usize
         ensures { result ≡ rules_from (plan self.now) }
     {
-        self.starts_from() + 4 * self.cells
+        self.starts_from() + START * self.cells
     }
 
     pub fn clauses_from(&self) -> usize
@@ -41,5 +45,28 @@ impl Layout {
         ensures { result ≡ code_from (plan self.now) }
     {
         self.clauses_from() + CLAUSE * self.clauses
+    }
+    /// Where the mask of device `d` stands.
+    pub fn mask_from(&self, d: usize) -> usize
+        requires { d < 256 }
+        ensures { result ≡ cells_from (plan self.now) + 4 * d }
+    {
+        self.cells_from() + MASK * d
+    }
+
+    /// Where the rule `i` stands.
+    pub fn rule_from(&self, i: usize) -> usize
+        requires { i < 32 }
+        ensures { result ≡ rules_from (plan self.now) + 53 * i }
+    {
+        self.rules_from() + RULE * i
+    }
+
+    /// Where the clause `i` stands.
+    pub fn clause_from(&self, i: usize) -> usize
+        requires { i < 32 }
+        ensures { result ≡ clauses_from (plan self.now) + 5 * i }
+    {
+        self.clauses_from() + CLAUSE * i
     }
 }

@@ -3,11 +3,8 @@ ghost use Rattle.std.specs.Prelude.{◌≡◌, false, is_ok};
 ghost use Rattle.book.specs.Means.{means};
 ghost use Rattle.book.specs.Reads.{Read};
 
-use super::cells::cells;
 use super::draft::Draft;
-use super::expressions::expressions;
-use super::fields::fields;
-use super::fill::fill;
+use super::file::{File, Parsed, Right};
 use super::header::header;
 use fault::Fault;
 
@@ -17,9 +14,12 @@ pub fn read(bytes: &[u8], draft: &mut Draft) -> Result<(), Fault>
     ensures kept { is_ok result ≡ false → draft.new ≡ draft.old }
 {
     let layout = header(bytes)?;
-    fields(bytes, &layout)?;
-    expressions(bytes, &layout)?;
-    cells(bytes, &layout)?;
-    fill(&mut draft.book, bytes, &layout);
+    let file = File { bytes, layout };
+    file.fields()?;
+    file.expressions()?;
+    let parsed = Parsed { file };
+    parsed.cells()?;
+    let right = Right { parsed };
+    right.fill(&mut draft.book);
     Ok(())
 }

@@ -5,7 +5,8 @@ ghost use Rattle.meaning.specs.Checks.{book_fault};
 use fault::{BookCause, Fault, Layer};
 
 pub(crate) fn refusal(cause: BookCause, a: usize, b: usize) -> Fault
-    requires { (a < 2 ^ 32) × (b < 2 ^ 32) }
+    requires first { a < 2 ^ 32 }
+    requires second { b < 2 ^ 32 }
     ensures { result ≡ book_fault cause a b }
 {
     Fault {

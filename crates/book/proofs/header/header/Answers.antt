@@ -2,7 +2,7 @@
 use Rattle.std.proofs.Common.{◌≡◌, Err, sym}
 use Rattle.meaning.specs.Layout.{layout}
 use Rattle.meaning.specs.Reading.{sections_checked, checked}
-use Rattle.book.proofs.Exits.{handed}
+use Rattle.meaning.proofs.Rows.{handed}
 use Rattle.book.proofs.header.header.Goals as goal
 
 pub returns-in_err-first : goal.returns-in_err-first

@@ -4,8 +4,8 @@ use Rattle.std.proofs.lemmas.Bool.{true≢false}
 use Rattle.meaning.specs.WellFormed.{WellFormed}
 use Rattle.book.specs.Means.{means}
 use Rattle.book.specs.Reads.{Read}
-use Rattle.book.proofs.Exits.{handed}
-use Rattle.book.proofs.Outcome.{answered, fields_refuse, expressions_refuse, last_check, fitting, formed, read_as, refused_as}
+use Rattle.meaning.proofs.Rows.{handed}
+use Rattle.book.proofs.Outcome.{answered, fields_refuse, expressions_refuse, last_check, formed, read_as, refused_as}
 use Rattle.book.proofs.reader.read.Goals as goal
 
 pub returns-in_err-layout : goal.returns-in_err-layout
@@ -35,10 +35,6 @@ returns-in_err-cells c =
     let before = means c.args.draft.now.book in
     let checks = last_check c.in_ok-layout.ensures (sym c.in_ok-fields.ensures) _ (sym c.in_ok-expressions.ensures) (sym c.in_err-cells.ensures) in
     record { read = subst (Read bs before before) (sym (handed c.from_residual-in_err-cells.result c.from_residual-in_err-cells.ensures.1)) (refused_as bs before _ (answered bs _ checks)); kept = λ _. refl }
-
-pub fill-requires : goal.fill-requires
-fill-requires c =
-    fitting c.in_ok-layout.ensures (sym c.in_ok-fields.ensures) (λ i. (c.type_inv.bytes i).fits) (sym c.in_ok-expressions.ensures) (sym c.in_ok-cells.ensures)
 
 pub invariant_of-draft : goal.invariant_of-draft
 invariant_of-draft c =

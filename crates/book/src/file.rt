@@ -1,0 +1,31 @@
+//! Files, by how far they are checked.
+ghost use Rattle.std.specs.Prelude.{◌≡◌, Ok};
+ghost use Rattle.meaning.specs.Bytes.{Bytes};
+ghost use Rattle.meaning.specs.Reading.{fields_checked, expressions_checked, cells_checked};
+ghost use Rattle.book.specs.Plan.{plan, Framed};
+
+use super::layout::Layout;
+
+/// A file whose header is right, and where its sections lie.
+#[derive(Clone, Copy)]
+pub(crate) struct File<'a> {
+    pub bytes: &'a [u8],
+    pub layout: Layout,
+    ghost fits: { Bytes bytes.now },
+    ghost framed: { Framed bytes.now layout },
+}
+
+/// A file whose fields and expressions are right too.
+#[derive(Clone, Copy)]
+pub(crate) struct Parsed<'a> {
+    pub file: File<'a>,
+    ghost fields: { fields_checked file.bytes.now (plan file.layout) ≡ Ok tt },
+    ghost expressions: { expressions_checked file.bytes.now (plan file.layout) ≡ Ok tt },
+}
+
+/// A file that is right: its devices have the cells that its rules and clauses need.
+#[derive(Clone, Copy)]
+pub(crate) struct Right<'a> {
+    pub parsed: Parsed<'a>,
+    ghost cells: { cells_checked parsed.file.bytes.now (plan parsed.file.layout) ≡ Ok tt },
+}
