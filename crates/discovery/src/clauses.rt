@@ -1,61 +1,58 @@
 //! Which clauses a change would make false.
 ghost use Rattle.std.specs.Prelude.{◌≡◌, not, ◌&&◌, ◌==◌};
 ghost use Rattle.meaning.specs.Flow.{share};
-ghost use Rattle.meaning.specs.WellFormed.{WellFormed};
 ghost use Rattle.runs.specs.Clauses as meant;
 ghost use Rattle.runs.specs.Clauses.{concerns};
 ghost use Rattle.book.specs.Means.{code_of, clause_means, means};
-ghost use Rattle.book.specs.Rights.{RightClause};
 ghost use Rattle.evaluation.specs.Posted.{posted};
-ghost use Rattle.discovery.specs.Plans.{Ready};
 
-use super::plan::Plan;
-use book::{Book, Clause};
-use evaluation::{Changes, holds};
+use super::planned::PlannedBook;
+use book::CheckedClause;
+use evaluation::{Evaluator, Preview};
 use hosts::Host;
 
-/// Whether a clause is false under changes.
-fn is_false<H: Host>(book: &Book, host: &H, changes: &Changes, clause: &Clause) -> bool
-    requires { RightClause book.now clause.now }
-    ensures { result ≡ not (meant.holds (posted changes.now (H.Host.table host.now)) (clause_means (code_of book.now) clause.now)) }
+/// Whether a clause is false in a preview.
+fn is_false<H: Host>(preview: &Preview<'_, H>, clause: &CheckedClause<'_>) -> bool
+    ensures { result ≡ not (meant.holds (posted preview.now.changes.now (H.Host.table preview.now.host.now)) (clause_means (code_of clause.now.book.now) clause.now.clause.now)) }
 {
-    let device = u32::from(clause.device);
-    !holds(host, changes, device, device, book.code_of(clause.test))
+    let device = u32::from(clause.clause.device);
+    let evaluator = Evaluator {
+        preview: *preview,
+        own: device,
+        receiver: device,
+    };
+    !evaluator.holds(clause.test().bytes)
 }
 
-/// Whether a clause is one of a device, reads one of some resources, and is false under changes.
+impl PlannedBook<'_> {
+    /// The first clause of a device that reads one of some resources and would be false once the changes of a preview are written.
+    pub fn failing<H: Host>(&self, preview: &Preview<'_, H>, device: u8, set: u32) -> Option<u32>
+        ensures { result ≡ meant.failing (means self.now.book.now) (posted preview.now.changes.now (H.Host.table preview.now.host.now)) (concerns device set) }
+    {
+        for (number, clause) in self.book.used_clauses().iter().enumerate() {
+            let reads = self.plan.reads[number];
+            let clause = CheckedClause {
+                book: self.book,
+                number: number as u8,
+                clause,
+            };
+            if is_broken(preview, &clause, reads, device, set) {
+                return Some(number as u32);
+            }
+        }
+        None
+    }
+}
+
+/// Whether a clause is one of a device, reads one of some resources, and is false in a preview.
 fn is_broken<H: Host>(
-    book: &Book,
-    host: &H,
-    changes: &Changes,
-    clause: &Clause,
+    preview: &Preview<'_, H>,
+    clause: &CheckedClause<'_>,
     reads: u32,
     device: u8,
     set: u32,
 ) -> bool
-    requires { RightClause book.now clause.now }
-    ensures { result ≡ ((clause.now.device == device && share reads set) && not (meant.holds (posted changes.now (H.Host.table host.now)) (clause_means (code_of book.now) clause.now))) }
+    ensures { result ≡ ((clause.now.clause.now.device == device && share reads set) && not (meant.holds (posted preview.now.changes.now (H.Host.table preview.now.host.now)) (clause_means (code_of clause.now.book.now) clause.now.clause.now))) }
 {
-    clause.device == device && reads & set != 0 && is_false(book, host, changes, clause)
-}
-
-/// The first clause of a device that reads one of some resources and would be false once the changes are written.
-pub fn failing<H: Host>(
-    book: &Book,
-    plan: &Plan,
-    host: &H,
-    changes: &Changes,
-    device: u8,
-    set: u32,
-) -> Option<u32>
-    requires { (WellFormed (means book.now)) × (Ready (means book.now) plan.now) }
-    ensures { result ≡ meant.failing (means book.now) (posted changes.now (H.Host.table host.now)) (concerns device set) }
-{
-    for (number, clause) in book.used_clauses().iter().enumerate() {
-        let reads = plan.reads[number];
-        if is_broken(book, host, changes, clause, reads, device, set) {
-            return Some(number as u32);
-        }
-    }
-    None
+    clause.clause.device == device && reads & set != 0 && is_false(preview, clause)
 }

@@ -1,41 +1,36 @@
 //! Discovery: what a change on a device forms, rule by rule.
 ghost use Rattle.std.specs.Prelude.{◌≡◌};
 ghost use Rattle.meaning.specs.Levels.{Meets};
-ghost use Rattle.meaning.specs.WellFormed.{WellFormed};
 ghost use Rattle.runs.specs.Discovery.{formed, settled};
 ghost use Rattle.book.specs.Means.{means};
 ghost use Rattle.lanes.specs.View.{view};
-ghost use Rattle.discovery.specs.Plans.{Ready, Planned};
+ghost use Rattle.discovery.specs.Plans.{Planned};
 
-use super::forming::by_rule;
-use super::plan::Plan;
-use book::Book;
+use super::firing::Firing;
+use super::planned::PlannedBook;
+use book::CheckedRule;
 use hosts::Host;
 use lanes::Lanes;
 
-/// A change of some resources on a device, which the host holds already, forms updates, and each goes to its lane.
-pub fn discover<H: Host>(
-    book: &Book,
-    plan: &Plan,
-    host: &H,
-    lanes: &mut Lanes,
-    device: u8,
-    changed: u32,
-)
-    requires { (WellFormed (means book.now)) × (Ready (means book.now) plan.now) }
-    ensures { (M : Meets) → Planned M (means book.now) plan.now → view lanes.new ≡ settled M (means book.now) (view lanes.old) (formed (means book.now) (H.Host.table host.now) device changed) }
-{
-    for (number, rule) in book.used_rules().iter().enumerate() {
-        let route = plan.routes[number];
-        by_rule(
-            book,
-            host,
-            lanes,
-            rule,
-            number as u8,
-            route,
-            device,
-            changed,
-        );
+impl PlannedBook<'_> {
+    /// A change of some resources on a device, which the host holds already, forms updates, and each goes to its lane.
+    pub fn discover<H: Host>(&self, host: &H, lanes: &mut Lanes, device: u8, changed: u32)
+        ensures { (M : Meets) → Planned M (means self.now.book.now) self.now.plan.now → view lanes.new ≡ settled M (means self.now.book.now) (view lanes.old) (formed (means self.now.book.now) (H.Host.table host.now) device changed) }
+    {
+        for (number, rule) in self.book.used_rules().iter().enumerate() {
+            let route = self.plan.routes[number];
+            let rule = CheckedRule {
+                book: self.book,
+                number: number as u8,
+                rule,
+            };
+            let firing = Firing {
+                host,
+                rule,
+                route,
+                device,
+            };
+            firing.by_rule(lanes, changed);
+        }
     }
 }
