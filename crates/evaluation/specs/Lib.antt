@@ -1,2 +1,3 @@
 pub mod Posted
 pub mod Runnable
+pub mod Shown
