@@ -41,6 +41,7 @@ impl Stack {
     pub(crate) fn below_top(&self, place: usize) -> i32
         ensures { result ≡ slice_index_or self.now place (pos 0) }
     {
+        // A chain from the last value back, with 0 for none, leaves a goal where this test leaves none.
         if place < self.depth {
             self.items[self.depth - 1 - place]
         } else {
