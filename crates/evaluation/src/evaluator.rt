@@ -3,12 +3,12 @@ ghost use Rattle.std.specs.Prelude.{◌≡◌, ◌≤◌, length};
 ghost use Rattle.meaning.specs.Expression as meant;
 ghost use Rattle.meaning.specs.Expression.{decoded, deepened, pushed};
 ghost use Rattle.runs.specs.Table.{cell, value_at};
-ghost use Rattle.evaluation.specs.Posted.{posted};
+ghost use Rattle.evaluation.specs.Shown.{shown};
 ghost use Rattle.book.specs.Runnable.{Runnable};
 
 use super::operators::truth;
 use super::preview::Preview;
-use super::stack::Stack;
+use super::stack::{DEPTH, Stack};
 use book::front;
 use hosts::Host;
 use meaning::Instruction;
@@ -21,11 +21,11 @@ pub struct Evaluator<'a, H> {
     pub receiver: u32,
 }
 
-impl<'a, H: Host> Evaluator<'a, H> {
+impl<H: Host> Evaluator<'_, H> {
     /// One instruction on a stack.
     fn step(&self, stack: &mut Stack, instruction: Instruction)
-        requires { deepened (length stack.old) instruction ≤ 8 }
-        ensures { stack.new ≡ pushed (cell (posted self.now.preview.changes.now (H.Host.table self.now.preview.host.now)) self.now.own) (cell (posted self.now.preview.changes.now (H.Host.table self.now.preview.host.now)) self.now.receiver) stack.old instruction }
+        requires { deepened (length stack.old) instruction ≤ DEPTH }
+        ensures { stack.new ≡ pushed (cell (shown H.Host.table self.now.preview) self.now.own) (cell (shown H.Host.table self.now.preview) self.now.receiver) stack.old instruction }
     {
         match instruction {
             Instruction::Constant(value) => stack.push(value),
@@ -40,7 +40,7 @@ impl<'a, H: Host> Evaluator<'a, H> {
     /// The value of some code.
     pub fn value(&self, code: &[u8]) -> i32
         requires { Runnable code.now }
-        ensures { result ≡ value_at (posted self.now.preview.changes.now (H.Host.table self.now.preview.host.now)) self.now.own self.now.receiver (decoded code.now) }
+        ensures { result ≡ value_at (shown H.Host.table self.now.preview) self.now.own self.now.receiver (decoded code.now) }
     {
         let mut stack = Stack::new();
         let mut rest = code;
@@ -54,7 +54,7 @@ impl<'a, H: Host> Evaluator<'a, H> {
     /// Whether the value of some code is true.
     pub fn holds(&self, code: &[u8]) -> bool
         requires { Runnable code.now }
-        ensures { result ≡ meant.truth (value_at (posted self.now.preview.changes.now (H.Host.table self.now.preview.host.now)) self.now.own self.now.receiver (decoded code.now)) }
+        ensures { result ≡ meant.truth (value_at (shown H.Host.table self.now.preview) self.now.own self.now.receiver (decoded code.now)) }
     {
         truth(self.value(code))
     }

@@ -13,7 +13,8 @@ pub fn truth(value: i32) -> bool
     value != 0
 }
 
-/// How many operands an operator takes; `book` hands out no table that says it.
+/// How many operands an operator takes.
+// `book` keeps the column of its opcode table that says so to itself.
 pub(crate) fn operands(operator: Operator) -> usize
     ensures table { result ≡ pops (Apply operator) }
     ensures some { 0 < result }
@@ -33,7 +34,8 @@ pub fn operate(operator: Operator, a: i32, b: i32) -> i32
         Operator::Add => a.saturating_add(b),
         Operator::Subtract => a.saturating_sub(b),
         Operator::Multiply => a.saturating_mul(b),
-        Operator::Divide => { if b == 0 { 0 } else { a.saturating_div(b) } }
+        Operator::Divide if b == 0 => 0,
+        Operator::Divide => a.saturating_div(b),
         Operator::Less => i32::from(a < b),
         Operator::AtMost => i32::from(a <= b),
         Operator::Equal => i32::from(a == b),

@@ -2,13 +2,14 @@
 ghost use Rattle.std.specs.Prelude.{◌≡◌, ℕ, ◌≤◌, ◌<◌, List, [], ◌∷◌, length, reverse, take, drop, ℤ, pos, slice_index_or};
 ghost use Rattle.meaning.specs.declared.instruction.Instruction.TheVariants.{Apply};
 ghost use Rattle.meaning.specs.Expression.{operated, pops};
+ghost use Rattle.evaluation.specs.declared.stack.TheConstants.{DEPTH};
 
 use super::operators::{operands, operate};
 use meaning::Operator;
 use std::marker::Model;
 
 /// The most values on a stack.
-const DEPTH: usize = 8;
+pub(crate) const DEPTH: usize = 8;
 
 /// At most eight values, the top first. They are kept with the top last, in fixed memory.
 #[derive(Drop)]
@@ -22,7 +23,7 @@ impl Model for Stack {
 
     ghost view = { λ s. reverse (take s.depth s.items) };
 
-    ghost invariant = { λ s. s.depth ≤ 8 };
+    ghost invariant = { λ s. s.depth ≤ DEPTH };
 }
 
 impl Stack {
@@ -40,6 +41,7 @@ impl Stack {
     pub(crate) fn below_top(&self, place: usize) -> i32
         ensures { result ≡ slice_index_or self.now place (pos 0) }
     {
+        // A chain from the last value back, with 0 for none, leaves a goal where this test leaves none.
         if place < self.depth {
             self.items[self.depth - 1 - place]
         } else {

@@ -1,12 +1,12 @@
 use Rattle.std.proofs.Common.{length}
 use Rattle.runs.specs.Table.{cell}
-use Rattle.evaluation.specs.Posted.{posted}
+use Rattle.evaluation.specs.Shown.{shown}
 use Rattle.evaluation.proofs.Running.{Run}
 use Rattle.evaluation.proofs.evaluator.Evaluator.value.Given as goal
 
 abbrev pub invariant-loop-instruction : goal.invariant-loop-instruction
 invariant-loop-instruction g l =
-    let T = posted l.self.preview.changes.now (g.H.Host.table l.self.preview.host.now) in
+    let T = shown g.H.Host.table l.self.preview in
     Run (cell T l.self.own) (cell T l.self.receiver) l.code l.stack l.rest
 
 abbrev pub decreases-loop-instruction : goal.decreases-loop-instruction
