@@ -4,5 +4,4 @@ pub mod Filling
 pub mod Formed
 pub mod Settling
 pub mod Values
-pub mod Rights
 pub mod Firsts

@@ -29,14 +29,14 @@ impl PlannedBook<'_> {
     pub fn failing<H: Host>(&self, preview: &Preview<'_, H>, device: u8, set: u32) -> Option<u32>
         ensures { result ≡ meant.failing (means self.now.book.now) (posted preview.now.changes.now (H.Host.table preview.now.host.now)) (concerns device set) }
     {
+        let reads = &self.plan.reads;
         for (number, clause) in self.book.used_clauses().iter().enumerate() {
-            let reads = self.plan.reads[number];
             let clause = CheckedClause {
                 book: self.book,
                 number: number as u8,
                 clause,
             };
-            if is_broken(preview, &clause, reads, device, set) {
+            if is_broken(preview, &clause, reads[number], device, set) {
                 return Some(number as u32);
             }
         }

@@ -17,8 +17,8 @@ impl PlannedBook<'_> {
     pub fn discover<H: Host>(&self, host: &H, lanes: &mut Lanes, device: u8, changed: u32)
         ensures { (M : Meets) → Planned M (means self.now.book.now) self.now.plan.now → view lanes.new ≡ settled M (means self.now.book.now) (view lanes.old) (formed (means self.now.book.now) (H.Host.table host.now) device changed) }
     {
+        let routes = &self.plan.routes;
         for (number, rule) in self.book.used_rules().iter().enumerate() {
-            let route = self.plan.routes[number];
             let rule = CheckedRule {
                 book: self.book,
                 number: number as u8,
@@ -27,7 +27,7 @@ impl PlannedBook<'_> {
             let firing = Firing {
                 host,
                 rule,
-                route,
+                route: routes[number],
                 device,
             };
             firing.by_rule(lanes, changed);

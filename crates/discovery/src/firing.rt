@@ -8,9 +8,9 @@ use book::CheckedRule;
 
 /// A rule with its route, on a device of a host.
 #[derive(Drop)]
-pub(crate) struct Firing<'a, H> {
+pub(crate) struct Firing<'a, 'b, H> {
     pub host: &'a H,
-    pub rule: CheckedRule<'a>,
+    pub rule: CheckedRule<'b>,
     pub route: Route,
     pub device: u8,
     ghost known: { route.received ≡ received (rule_means (code_of rule.book.now) rule.rule.now) },

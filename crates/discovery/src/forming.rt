@@ -45,7 +45,7 @@ fn carries(rule: &Rule, device: u8) -> bool
     device < 32 && (carriers >> device) % 2 == 1
 }
 
-impl<H: Host> Firing<'_, H> {
+impl<H: Host> Firing<'_, '_, H> {
     /// The values of an action's assignments, for a receiver.
     fn values(&self, action: &CheckedAction<'_>, receiver: u8) -> [i32; SLOTS]
         ensures { take (length (action_means (code_of action.now.book.now) action.now.action.now)) result ≡ evaluated (H.Host.table self.now.host.now) self.now.device receiver (action_means (code_of action.now.book.now) action.now.action.now) }
@@ -64,7 +64,8 @@ impl<H: Host> Firing<'_, H> {
                 book: action.book,
                 slot,
             };
-            values[place] = evaluator.value(slot.value().bytes);
+            let code = slot.value();
+            values[place] = evaluator.value(code.bytes);
         }
         values
     }

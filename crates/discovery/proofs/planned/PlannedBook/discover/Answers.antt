@@ -1,0 +1,55 @@
+-- Each turn has one rule, and what the rules form together is what the change forms.
+use Rattle.std.proofs.Common.{◌≡◌, ℕ, ◌<◌, List, length, take, sym, ap, ◌∙◌, arith}
+use Rattle.std.specs.List.{range_with_len, flat_map}
+use Rattle.book.specs.declared.book.Book.{Book}
+use Rattle.book.specs.declared.rule.Rule.{Rule}
+use Rattle.book.specs.Means.{code_of, rule_means, means}
+use Rattle.lanes.specs.View.{view}
+use Rattle.lanes.proofs.Views.{view_bounded}
+use Rattle.meaning.specs.WellFormed.{WellFormed}
+use Rattle.runs.specs.Discovery.{settled}
+use Rattle.verdict.proofs.Blocks.{joined_one}
+use Rattle.book.proofs.Numbering.{same_length, rule_early, rule_at}
+use Rattle.discovery.specs.Forming.{by_rule}
+use Rattle.discovery.proofs.Formed.{by_rules}
+use Rattle.discovery.proofs.Settling.{settled_none, settled_then}
+use Rattle.discovery.proofs.planned.PlannedBook.discover.Goals as goal
+
+pub loop-number-init : goal.loop-number-init
+loop-number-init g c M planned =
+    settled_none M (means c.args.self.now.book.now) (view c.args.lanes.now) (λ n. (view_bounded c.args.lanes.now n).few_lost)
+
+pub bounds-routes-number : goal.bounds-routes-number
+bounds-routes-number g c = rule_early c.args.self.now.book.now c.args.self.now.formed c.loop-number.number _ c.used_rules-rule-items.ensures c.loop-number-test.true
+
+pub overflow_cast-rule : goal.overflow_cast-rule
+overflow_cast-rule g c = record { fits = omega (arith, rule_early c.args.self.now.book.now c.args.self.now.formed c.loop-number.number _ c.used_rules-rule-items.ensures c.loop-number-test.true) }
+
+pub invariant_of-rule : goal.invariant_of-rule
+invariant_of-rule g c =
+    let of = c.args.self.now in
+    let at = rule_at of.book.now of.formed c.loop-number.number _ c.used_rules-rule-items.ensures _ c.loop-number-test.true in
+    record { formed = of.formed; right = at.0; numbered = at.1 }
+
+pub invariant_of-firing : goal.invariant_of-firing
+invariant_of-firing g c =
+    let of = c.args.self.now in
+    let k = c.loop-number.number in
+    let at = (rule_at of.book.now of.formed k _ c.used_rules-rule-items.ensures _ c.loop-number-test.true).1 in
+    let inside : k < length of.plan.now.routes = omega (arith, bounds-routes-number g c) in
+    record { known = ap (λ x. x.received) (get_or_default of.plan.now.routes k _ no_route inside) ∙ of.ready.0 k at.inside ∙ ap received at.is }
+
+pub loop-number-preserved : goal.loop-number-preserved
+loop-number-preserved g c M planned =
+    let b = means c.args.self.now.book.now in
+    let f = by_rule b (g.H.Host.table c.args.host.now) c.args.device c.args.changed in
+    settled_then M b (view c.args.lanes.now) (view c.loop-number.lanes) _ _ _ (c.loop-number.invariant M planned) (c.by_rule.ensures M (planned c.loop-number.number (numbered c.args.self.now.book.now _ c.loop-number.number c.args.self.now.formed c.used_rules-rule-items.ensures c.loop-number-test.true).0))
+    ∙ ap (settled M b (view c.args.lanes.now)) (joined_one f c.loop-number.number)
+
+pub returns : goal.returns
+returns g c M planned =
+    let b = means c.args.self.now.book.now in
+    let T = g.H.Host.table c.args.host.now in
+    let f = by_rule b T c.args.device c.args.changed in
+    let all : c.loop-number.number ≡ length b.rules = omega (arith, same_length (rule_means (code_of c.args.self.now.book.now)) (take c.args.self.now.book.now.rule_count c.args.self.now.book.now.rules) _ c.used_rules-rule-items.ensures, c.loop-number-test.false) in
+    c.loop-number.invariant M planned ∙ ap (λ n. settled M b (view c.args.lanes.now) (flat_map f (range_with_len 0 n))) all ∙ sym (ap (settled M b (view c.args.lanes.now)) (by_rules b T c.args.device c.args.changed))
