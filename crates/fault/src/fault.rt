@@ -27,6 +27,17 @@ pub enum CallCause {
     Buffer,
 }
 
+/// What the first number of the place of an `Argument` refusal names.
+#[derive(Clone, Copy, PartialEq, Eq, Debug)]
+pub enum Argument {
+    Device = 1,
+    Resource = 2,
+    /// A lane or a level.
+    Level = 3,
+    /// A count or a run number.
+    Count = 4,
+}
+
 /// Why a host does not serve a book.
 #[derive(Clone, Copy, PartialEq, Eq, Debug)]
 pub enum HostCause {

@@ -6,6 +6,7 @@ mod sentence;
 mod text;
 
 pub use fault::{
-    BookCause, CallCause, EnsembleCause, FIRST_CLAUSE, Fault, HostCause, Layer, OrderCause,
+    Argument, BookCause, CallCause, EnsembleCause, FIRST_CLAUSE, Fault, HostCause, Layer,
+    OrderCause,
 };
 pub use sentence::Sentence;

@@ -1,59 +1,46 @@
--- Tables of an order: entry 16 × a + b is that of a and b, and beyond the levels both sides say the same. Assumes nothing.
-use Rattle.std.proofs.Common.{◌≡◌, ℕ, ◌+◌, ◌*◌, ◌/◌, ◌%◌, ◌<◌, Bool, true, false, cond, ◌&&◌, ltb, List, length, get_or, set, sym, ap, ◌∙◌, ⊎_elim, arith}
+-- A table with what an order says of each two levels is that order: beyond the levels both say the same. Assumes nothing.
+use Rattle.std.proofs.Common.{◌≡◌, ℕ, ◌+◌, ◌*◌, ◌/◌, ◌%◌, ◌<◌, ◌&&◌, cond, List, length, slice_index_or, set, ◌∙◌, ap, arith, sym, subst}
 use Rattle.std.proofs.lemmas.List.Edits.{fill_by_more}
 use Rattle.std.proofs.lemmas.List.{length-set}
-use Rattle.std.proofs.lemmas.Bool.{cases_Bool, and_parts, and_from, ltb-true, lt-ltb, cond-true, cond-false, both_ways}
+use Rattle.std.proofs.lemmas.Bool.Decides.{nat_tests}
 use Rattle.meaning.specs.Levels.{Order, Lawful, Meets, Meeting}
 use Rattle.levels.specs.Orders.{both_inside}
+use Rattle.levels.specs.Tables.{no_pair, said_at, written, table_order, table_meets}
+use Rattle.levels.specs.declared.scale.Pair.{Pair}
 
 -- one entry more
-pub entry_more : {X : Type 0} (f : ℕ → X) (xs : List X) (n i : ℕ) (d v : X) → length xs ≡ n → i < n → v ≡ f i → ((j : ℕ) → j < i → get_or xs j d ≡ f j) → (length (set xs i v) ≡ n) × ((j : ℕ) → j < i + 1 → get_or (set xs i v) j d ≡ f j)
+pub entry_more : {X : Type 0} (f : ℕ → X) (xs : List X) (n i : ℕ) (d v : X) → length xs ≡ n → i < n → v ≡ f i → ((j : ℕ) → j < i → slice_index_or xs j d ≡ f j) → (length (set xs i v) ≡ n) × ((j : ℕ) → j < i + 1 → slice_index_or (set xs i v) j d ≡ f j)
 entry_more f xs n i d v long inside is each =
-    (length-set xs i v ∙ long, λ j h. ap (λ y. get_or (set xs i y) j d) is ∙ fill_by_more f xs i d (omega arith) each j h)
+    (length-set xs i v ∙ long, λ j h. ap (λ y. slice_index_or (set xs i y) j d) is ∙ fill_by_more f xs i d (omega arith) each j h)
 
-module _ (o : Order) (lawful : Lawful o) where
-  -- levels that compare are levels
-  compared : (a b : ℕ) → o.below a b ≡ true → both_inside o.count a b ≡ true
-  compared a b e =
-      and_from _ _ (lt-ltb _ _ (lawful.left_inside a b e)) (lt-ltb _ _ (lawful.right_inside a b e))
+-- a table of n levels is that of an order and its meets, and keeps their laws
+pub record IsTableOf (o : Order) (m : Meets) (n : ℕ) (pairs : List Pair) : Type 0 where
+  pub ranks : table_order n pairs ≡ o
+  pub meets : table_meets n pairs ≡ m
+  pub lawful : Lawful (table_order n pairs)
+  pub meeting : Meeting (table_order n pairs) (table_meets n pairs)
 
-  pub compares : (xs : List Bool) → ((k : ℕ) → k < 256 → get_or xs k false ≡ o.below (k / 16) (k % 16)) → (a b : ℕ) → (both_inside o.count a b && get_or xs (16 * a + b) false) ≡ o.below a b
-  compares xs each a b =
-      ⊎_elim
-      (λ inside.
-      let parts = and_parts (ltb a o.count) _ inside in
-      let low = ltb-true a o.count parts.0 in
-      let high = ltb-true b o.count parts.1 in
+module _ (o : Order) (m : Meets) (lawful : Lawful o) (meeting : Meeting o m) (n : ℕ) (counted : n ≡ o.count) (pairs : List Pair) (each : (k : ℕ) → k < 256 → slice_index_or pairs k no_pair ≡ said_at o m k) where
+  told : (a b : ℕ) → a < o.count → b < o.count → written pairs a b ≡ record { below = o.below a b; meet = m.meet a b }
+  told a b low high =
       let few = lawful.few in
       let row : (16 * a + b) / 16 ≡ a = omega arith in
       let column : (16 * a + b) % 16 ≡ b = omega arith in
-      ap (λ t. t && get_or xs (16 * a + b) false) inside ∙ each (16 * a + b) (omega arith) ∙ (λ i. o.below (row i) (column i)))
-      (λ outside.
-      ap (λ t. t && get_or xs (16 * a + b) false) outside ∙ ⊎_elim (λ e. absurd (both_ways _ outside (compared a b e))) sym (cases_Bool (o.below a b)))
-      (cases_Bool (both_inside o.count a b))
+      each (16 * a + b) (omega arith) ∙ (λ i. record { below = o.below (row i) (column i); meet = m.meet (row i) (column i) })
 
-  module _ (m : Meets) (meeting : Meeting o m) where
-    -- a meet is a level
-    pub meet_level : (a b : ℕ) → m.meet a b < 16
-    meet_level a b =
-        ⊎_elim
-        (λ inside.
-        let parts = and_parts (ltb a o.count) _ inside in
-        let below = meeting.at_left a b (ltb-true a o.count parts.0) (ltb-true b o.count parts.1) in
-        omega (arith, lawful.left_inside _ a below, lawful.few))
-        (λ outside. omega (arith, meeting.outside a b outside))
-        (cases_Bool (both_inside o.count a b))
+  compares : (a b : ℕ) → (both_inside n a b && (written pairs a b).below) ≡ o.below a b
+  compares a b = grind (arith, nat_tests, told a b, lawful.left_inside a b, lawful.right_inside a b)
 
-    pub meets_as : (xs : List ℕ) → ((k : ℕ) → k < 256 → get_or xs k 0 ≡ m.meet (k / 16) (k % 16)) → (a b : ℕ) → cond (both_inside o.count a b) (get_or xs (16 * a + b) 0) 0 ≡ m.meet a b
-    meets_as xs each a b =
-        ⊎_elim
-        (λ inside.
-        let parts = and_parts (ltb a o.count) _ inside in
-        let low = ltb-true a o.count parts.0 in
-        let high = ltb-true b o.count parts.1 in
-        let few = lawful.few in
-        let row : (16 * a + b) / 16 ≡ a = omega arith in
-        let column : (16 * a + b) % 16 ≡ b = omega arith in
-        cond-true _ _ _ inside ∙ each (16 * a + b) (omega arith) ∙ (λ i. m.meet (row i) (column i)))
-        (λ outside. cond-false _ _ _ outside ∙ sym (meeting.outside a b outside))
-        (cases_Bool (both_inside o.count a b))
+  met : (a b : ℕ) → cond (both_inside n a b) (written pairs a b).meet 0 ≡ m.meet a b
+  met a b = grind (arith, nat_tests, told a b, meeting.outside a b)
+
+  pub is_table : IsTableOf o m n pairs
+  is_table =
+      let ranks : table_order n pairs ≡ o = λ i. record { count = counted i; below = λ a b. compares a b i } in
+      let meets : table_meets n pairs ≡ m = λ i. record { meet = λ a b. met a b i } in
+      record {
+        ranks = ranks;
+        meets = meets;
+        lawful = subst Lawful (sym ranks) lawful;
+        meeting = subst (λ x. Meeting x (table_meets n pairs)) (sym ranks) (subst (Meeting o) (sym meets) meeting);
+      }

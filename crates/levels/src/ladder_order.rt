@@ -5,17 +5,17 @@ ghost use Rattle.std.proofs.Common.{rules, arith};
 
 use super::ladder::Ladder;
 use super::order::Order;
-use fault::{CallCause, Fault, Layer};
+use fault::{Argument, CallCause, Fault, Layer};
 
 impl Ladder {
     /// A ladder of 1 to 16 levels; another size is refused.
     pub fn new(levels: u32) -> Result<Ladder, Fault>
         ensures { MatchResult result (λ o. o.levels ≡ levels) (λ f. ((nat_le 1 levels && nat_le levels 16) ≡ false) × (f ≡ bad_size levels)) }
     {
-        if levels < 1 || levels > 16 {
+        if !(1..=16).contains(&levels) {
             return Err(Fault {
                 layer: Layer::Call(CallCause::Argument),
-                place: (4, levels),
+                place: (Argument::Count as u32, levels),
             });
         }
         Ok(Ladder { levels })

@@ -5,6 +5,7 @@ mod ladder;
 mod ladder_order;
 mod order;
 mod scale;
+mod scale_order;
 mod set_order;
 mod set_order_order;
 mod writing;

@@ -5,7 +5,7 @@ ghost use Rattle.levels.specs.Orders.{sets, sets_meets, bad_size};
 
 use super::order::Order;
 use super::set_order::SetOrder;
-use fault::{CallCause, Fault, Layer};
+use fault::{Argument, CallCause, Fault, Layer};
 
 impl SetOrder {
     /// The sets of 0 to 4 members; another size is refused.
@@ -15,7 +15,7 @@ impl SetOrder {
         if members > 4 {
             return Err(Fault {
                 layer: Layer::Call(CallCause::Argument),
-                place: (4, members),
+                place: (Argument::Count as u32, members),
             });
         }
         Ok(SetOrder { members })

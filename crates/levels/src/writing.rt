@@ -1,30 +1,29 @@
 //! Any order written out as a scale, which compares and meets as the order does.
-ghost use Rattle.std.specs.Prelude.{◌≡◌, ℕ, ◌/◌, ◌%◌, ◌<◌, false, slice_index, slice_index_or};
+ghost use Rattle.std.specs.Prelude.{◌≡◌, ℕ, ◌<◌, slice_index_or};
+ghost use Rattle.levels.specs.Tables.{no_pair, said_at};
 ghost use Rattle.levels.specs.Scales.{scaled, scaled_meets};
 
 use super::order::Order;
-use super::scale::Scale;
+use super::scale::{Pair, Scale};
+use std::array;
 
-/// Whether each level is at or below each.
-fn comparisons<O: Order>(order: &O) -> [bool; 256]
-    ensures { (k : ℕ) → k < 256 → slice_index_or result k false ≡ (O.Order.ranks order.now).below (k / 16) (k % 16) }
+/// What an order says of the two levels at a place of the table.
+fn pair_at<O: Order>(order: &O, place: usize) -> Pair
+    requires { place < 256 }
+    ensures { result ≡ said_at (O.Order.ranks order.now) (O.Order.meets order.now) place }
 {
-    let mut below = [false; 256];
-    for k in 0..256u32 {
-        below[k as usize] = order.at_or_below(k / 16, k % 16);
+    let (a, b) = (place as u32 / 16, place as u32 % 16);
+    Pair {
+        below: order.at_or_below(a, b),
+        meet: order.meet(a, b) as u8,
     }
-    below
 }
 
-/// The meet of each two levels, which is itself a level.
-fn meets<O: Order>(order: &O) -> [u8; 256]
-    ensures { (k : ℕ) → k < 256 → slice_index result k ≡ (O.Order.meets order.now).meet (k / 16) (k % 16) }
+/// What an order says of each two levels.
+fn pairs<O: Order>(order: &O) -> [Pair; 256]
+    ensures { (k : ℕ) → k < 256 → slice_index_or result k no_pair ≡ said_at (O.Order.ranks order.now) (O.Order.meets order.now) k }
 {
-    let mut meets = [0; 256];
-    for k in 0..256u32 {
-        meets[k as usize] = order.meet(k / 16, k % 16) as u8;
-    }
-    meets
+    array::from_fn(|place| pair_at(order, place))
 }
 
 /// Writes an order out.
@@ -34,34 +33,6 @@ pub fn written_out<O: Order>(order: &O) -> Scale
 {
     Scale {
         count: order.count(),
-        below: comparisons(order),
-        meets: meets(order),
-    }
-}
-
-impl Scale {
-    /// How many levels there are.
-    pub fn count(&self) -> u32
-        ensures { result ≡ (scaled self.now).count }
-    {
-        self.count
-    }
-
-    /// Whether `a` is at or below `b`.
-    pub fn at_or_below(&self, a: u32, b: u32) -> bool
-        ensures { result ≡ (scaled self.now).below a b }
-    {
-        a < self.count && b < self.count && self.below[(16 * a + b) as usize]
-    }
-
-    /// The meet of two levels, or 0 where one is no level.
-    pub fn meet(&self, a: u32, b: u32) -> u32
-        ensures { result ≡ (scaled_meets self.now).meet a b }
-    {
-        if a < self.count && b < self.count {
-            u32::from(self.meets[(16 * a + b) as usize])
-        } else {
-            0
-        }
+        pairs: pairs(order),
     }
 }
