@@ -7,7 +7,6 @@ use Rattle.meaning.specs.Levels.{Order, Lawful, Meets, Meeting}
 use Rattle.meaning.specs.Sets.{has}
 use Rattle.runs.specs.Clauses.{clause_at}
 use Rattle.runs.specs.Update.{rule_at, level_of}
-use Rattle.std.proofs.Common.{lit<}
 use Rattle.book.specs.declared.part.Part.{Part}
 use Rattle.book.specs.declared.part.Part.TheVariants.{Default, Task}
 use Rattle.lanes.specs.declared.number.LaneNumber.{LaneNumber}
@@ -38,12 +37,6 @@ Routed M b i x = RouteOf M b (rule_at b i) x
 abbrev pub Known : Book → ℕ → Route → Type 0
 Known b i x = x.received ≡ received (rule_at b i)
 
-abbrev pub first_lane : LaneNumber
-first_lane = record { number = 0; small = lit< tt }
-
-abbrev pub no_route : Route
-no_route = record { default_lane = first_lane; task_lane = first_lane; received = 0 }
-
 -- the lane of a part
 abbrev pub lane : Route → Part → LaneNumber
 lane x Default = x.default_lane
@@ -52,8 +45,8 @@ lane x Task = x.task_lane
 -- what calls ask of a plan, whatever the meets: routes that are known, and what each clause reads
 abbrev pub Ready : Book → Plan → Type 0
 Ready b x =
-    ((i : ℕ) → i < length b.rules → Known b i (slice_index_or x.routes i no_route)) × ((j : ℕ) → j < length b.clauses → slice_index x.reads j ≡ reads 0 (clause_at b j).test)
+    ((i : ℕ) (d : Route) → i < length b.rules → Known b i (slice_index_or x.routes i d)) × ((j : ℕ) → j < length b.clauses → slice_index x.reads j ≡ reads 0 (clause_at b j).test)
 
 -- a plan has the route of each rule
 abbrev pub Planned : Meets → Book → Plan → Type 0
-Planned M b x = (i : ℕ) → i < length b.rules → Routed M b i (slice_index_or x.routes i no_route)
+Planned M b x = (i : ℕ) (d : Route) → i < length b.rules → Routed M b i (slice_index_or x.routes i d)

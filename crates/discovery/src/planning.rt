@@ -6,7 +6,8 @@ ghost use Rattle.runs.specs.Clauses.{clause_at};
 ghost use Rattle.runs.specs.Update.{level_of};
 ghost use Rattle.levels.specs.Scales.{scaled, scaled_meets};
 ghost use Rattle.book.specs.Means.{code_of, action_means, rule_means, means};
-ghost use Rattle.discovery.specs.Plans.{Comparable, Greatest, RouteOf, Routed, no_route, Ready, Planned};
+ghost use Rattle.discovery.specs.declared.plan.Route as declared;
+ghost use Rattle.discovery.specs.Plans.{Comparable, Greatest, RouteOf, Routed, Ready, Planned};
 
 use super::accepted::AcceptedBook;
 use super::members::{lowest, without};
@@ -15,7 +16,7 @@ use book::{
     Book, CLAUSES, CheckedAction, CheckedBook, CheckedClause, CheckedRule, Part, RULES, Side,
 };
 use lanes::LaneNumber;
-use levels::Scale;
+use levels::{Order, Scale};
 use verdict::{received, targets};
 
 /// The lane of an action without targets.
@@ -90,7 +91,7 @@ impl AcceptedBook<'_> {
 
     /// The routes of all rules.
     fn routes(&self) -> [Route; RULES]
-        ensures { (i : ℕ) → i < length (means self.now.book.now).rules → Routed (scaled_meets self.now.scale.now) (means self.now.book.now) i (slice_index_or result i no_route) }
+        ensures { (i : ℕ) (d : declared.Route) → i < length (means self.now.book.now).rules → Routed (scaled_meets self.now.scale.now) (means self.now.book.now) i (slice_index_or result i d) }
     {
         let mut routes = [NO_ROUTE; RULES];
         for (number, rule) in self.book.used_rules().iter().enumerate() {

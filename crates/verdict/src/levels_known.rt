@@ -6,7 +6,7 @@ ghost use Rattle.verdict.specs.Verdicts.{level_checked, levels_checked};
 
 use book::{Book, CheckedBook};
 use fault::{Fault, Layer, OrderCause};
-use levels::Scale;
+use levels::{Order, Scale};
 use meaning::through;
 
 /// The level of a resource is one of the order.

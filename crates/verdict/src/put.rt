@@ -13,6 +13,7 @@ ghost use Rattle.verdict.specs.Rows as meant;
 use super::case::Case;
 use super::flow_buffer::FlowBuffer;
 use super::row::Row;
+use levels::Order;
 
 impl FlowBuffer<'_> {
     /// Puts a byte, if its place is inside the buffer.

@@ -1,12 +1,10 @@
 -- Each turn has one rule, and what the rules form together is what the change forms.
-use Rattle.std.proofs.Common.{◌≡◌, ℕ, ◌<◌, List, length, take, sym, ap, ◌∙◌, arith}
+use Rattle.std.proofs.Common.{◌≡◌, ◌<◌, length, take, sym, ap, ◌∙◌, arith}
 use Rattle.std.specs.List.{range_with_len, flat_map}
-use Rattle.book.specs.declared.book.Book.{Book}
-use Rattle.book.specs.declared.rule.Rule.{Rule}
 use Rattle.book.specs.Means.{code_of, rule_means, means}
 use Rattle.lanes.specs.View.{view}
 use Rattle.lanes.proofs.Views.{view_bounded}
-use Rattle.meaning.specs.WellFormed.{WellFormed}
+use Rattle.meaning.specs.Flow.{received}
 use Rattle.runs.specs.Discovery.{settled}
 use Rattle.verdict.proofs.Blocks.{joined_one}
 use Rattle.book.proofs.Numbering.{same_length, rule_early, rule_at}
@@ -36,15 +34,16 @@ invariant_of-firing g c =
     let of = c.args.self.now in
     let k = c.loop-number.number in
     let at = (rule_at of.book.now of.formed k _ c.used_rules-rule-items.ensures _ c.loop-number-test.true).1 in
-    let inside : k < length of.plan.now.routes = omega (arith, bounds-routes-number g c) in
-    record { known = ap (λ x. x.received) (get_or_default of.plan.now.routes k _ no_route inside) ∙ of.ready.0 k at.inside ∙ ap received at.is }
+    record { known = of.ready.0 k _ at.inside ∙ ap received at.is }
 
 pub loop-number-preserved : goal.loop-number-preserved
 loop-number-preserved g c M planned =
-    let b = means c.args.self.now.book.now in
+    let of = c.args.self.now in
+    let b = means of.book.now in
+    let k = c.loop-number.number in
     let f = by_rule b (g.H.Host.table c.args.host.now) c.args.device c.args.changed in
-    settled_then M b (view c.args.lanes.now) (view c.loop-number.lanes) _ _ _ (c.loop-number.invariant M planned) (c.by_rule.ensures M (planned c.loop-number.number (numbered c.args.self.now.book.now _ c.loop-number.number c.args.self.now.formed c.used_rules-rule-items.ensures c.loop-number-test.true).0))
-    ∙ ap (settled M b (view c.args.lanes.now)) (joined_one f c.loop-number.number)
+    let inside : k < length b.rules = omega (arith, same_length (rule_means (code_of of.book.now)) (take of.book.now.rule_count of.book.now.rules) _ c.used_rules-rule-items.ensures, c.loop-number-test.true) in
+    settled_then M b (view c.args.lanes.now) (view c.loop-number.lanes) _ _ _ (c.loop-number.invariant M planned) (c.by_rule.ensures M (planned k _ inside)) ∙ ap (settled M b (view c.args.lanes.now)) (joined_one f k)
 
 pub returns : goal.returns
 returns g c M planned =
