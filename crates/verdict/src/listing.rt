@@ -19,16 +19,13 @@ use super::row::Row;
 use book::{CheckedAction, CheckedBook, CheckedClause, CheckedRule, Part, RESOURCES, Side};
 use fault::FIRST_CLAUSE;
 use levels::Scale;
+use std::array;
 
 /// What the expression for each target of an action reads.
 fn values(action: &CheckedAction<'_>) -> [u32; RESOURCES]
     ensures { (t : ℕ) → t < 32 → slice_index result t ≡ read_for t 0 (action_means (code_of action.now.book.now) action.now.action.now) }
 {
-    let mut sets = [0; RESOURCES];
-    for target in 0..RESOURCES {
-        sets[target] = read_for(target, action);
-    }
-    sets
+    array::from_fn(|target| read_for(target, action))
 }
 
 impl Case<'_> {
