@@ -1,8 +1,9 @@
 -- The members of a mask are counted from below, and each adds one. Assumes nothing.
-use Rattle.std.proofs.Common.{◌≡◌, ℕ, ◌+◌, ◌-◌, ◌/◌, ◌%◌, ◌^◌, ◌<◌, ◌≤◌, true, false, eqb, refl, ap, ◌∙◌, arith, pow_pos, pow_mono}
+use Rattle.std.proofs.Common.{◌≡◌, ℕ, ◌+◌, ◌-◌, ◌*◌, ◌/◌, ◌%◌, ◌^◌, ◌<◌, ◌≤◌, true, false, eqb, refl, ap, ◌∙◌, arith, pow_pos, pow_mono}
 use native.Mathlib.Nat.{div-eq_of_lt}
+use lib.Bits.{bit_and}
 use lib.Count.{ones, ones_cat}
-use Rattle.std.proofs.lemmas.Nat.{mod-pow-add, mod_below, shr_split}
+use Rattle.std.proofs.lemmas.Nat.{one_shl, and_mask, mod-pow-add, mod_below, shr_split}
 use Rattle.std.proofs.lemmas.Bool.{eqb-true}
 use Rattle.meaning.specs.Sets.{has}
 
@@ -34,3 +35,7 @@ pub ones_member : (m i : ℕ) → has m i ≡ true → ones (m % 2 ^ (1 + i)) �
 ones_member m i h =
     let bit = eqb-true (m / 2 ^ i % 2) 1 h in
     more_ones m 1 i ∙ ap (λ x. ones x + ones (m % 2 ^ i)) bit ∙ ap (λ x. x + ones (m % 2 ^ i)) one_one
+
+-- the ones below a bit, as a mask of 32 bits is cut by it
+pub ones_below : (m i : ℕ) → i < 32 → ones (bit_and m (1 * 2 ^ i % 4294967296 - 1)) ≡ ones (m % 2 ^ i)
+ones_below m i low = ap ones (ap (λ bit. bit_and m (bit - 1)) (one_shl i 32 low) ∙ and_mask m i)

@@ -1,7 +1,10 @@
 -- Words go up from cell to cell, so no two cells share one, and each is below the number of cells. Assumes nothing.
-use Rattle.std.proofs.Common.{◌≡◌, ℕ, zero, suc, ◌+◌, ◌-◌, ◌%◌, ◌^◌, ◌<◌, ◌≤◌, true, ◌⊎◌, List, [], ◌∷◌, length, get_or, take, drop, sym, refl, ap, ◌∙◌, inl, inr, arith}
+use Rattle.std.proofs.Common.{◌≡◌, ℕ, zero, suc, ◌+◌, ◌-◌, ◌*◌, ◌%◌, ◌^◌, ◌<◌, ◌≤◌, true, ◌⊎◌, List, [], ◌∷◌, length, get_or, take, drop, sym, refl, ap, ◌∙◌, inl, inr, arith}
 use lib.Count.{ones}
+use Rattle.std.specs.List.{sum_by}
 use Rattle.std.proofs.lemmas.List.{take_all}
+use Rattle.std.proofs.lemmas.List.Sums.{sum_by-cons}
+use Rattle.std.proofs.lemmas.Nat.{ones-le}
 use Rattle.std.proofs.lemmas.Bool.{cases_order}
 use Rattle.meaning.specs.File.{count_cells}
 use Rattle.meaning.specs.Sets.{has}
@@ -27,6 +30,17 @@ count_grows cells d zero = let at : 0 + d ≡ d = omega arith in omega (arith, a
 count_grows cells d (suc k) =
     let at : suc k + d ≡ suc (k + d) = omega arith in
     omega (arith, ap (λ n. count_cells (take n cells)) at, count_more cells (k + d), count_grows cells d k)
+
+-- the cells are as many as the ones of the masks, and a mask of 32 bits has at most 32
+pub sum_ones : (cells : List ℕ) → sum_by ones cells ≡ count_cells cells
+unfolding count_cells
+sum_ones [] = refl
+sum_ones (m ∷ ms) = sum_by-cons ones m ms ∙ ap (λ n. ones m + n) (sum_ones ms)
+
+pub count_bounded : (cells : List ℕ) → ((d : ℕ) → get_or cells d 0 < 2 ^ 32) → count_cells cells ≤ 32 * length cells
+unfolding count_cells
+count_bounded [] fits = omega arith
+count_bounded (m ∷ ms) fits = omega (arith, ones-le 32 m (fits 0), count_bounded ms (λ d. fits (suc d)))
 
 module _ (cells : List ℕ) (d r : ℕ) (there : has_cell cells d r ≡ true) where
   -- the cells of the devices up to d are more than those before the cell

@@ -3,11 +3,9 @@
 
 mod cells;
 mod host;
-mod table_access;
 mod table_host;
 #[cfg(test)]
 mod tests;
-mod word_access;
 mod word_host;
 
 pub use host::Host;

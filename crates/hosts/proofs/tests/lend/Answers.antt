@@ -17,6 +17,6 @@ returns g c =
     let masks = ap (λ f. f.masks) kept in
     let lent = ap (λ f. get_or f.lent 0 0) kept ∙ made.lent in
     record {
-      cells = come_back in_words (λ T. write (write T 0 2 (pos 7)) 1 1 (pos 9)) cells first.masks last.masks c.args.words.now first.words.now last.words.now _ made.cells made.words masks (search rules) c.set_two.ensures.written;
-      past = come_back past_cells (λ ws. ws) cells first.masks last.masks c.args.words.now first.words.now last.words.now _ made.past made.words masks (search rules) (ap (λ f. f.beyond) kept);
+      cells = come_back in_words (λ T. write (write T 0 2 (pos 7)) 1 1 (pos 9)) cells first.cells.masks last.cells.masks c.args.words.now first.words.now last.words.now _ made.cells made.words masks (search rules) c.set_two.ensures.written;
+      past = come_back past_cells (λ ws. ws) cells first.cells.masks last.cells.masks c.args.words.now first.words.now last.words.now _ made.past made.words masks (search rules) (ap (λ f. f.beyond) kept);
     }
