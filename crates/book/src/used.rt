@@ -13,8 +13,7 @@ use super::rule::{Action, Clause, Rule, Slot, Span};
 fn used_of<T>(table: &[T], count: usize) -> &[T]
     ensures { result.now ≡ take count table.now }
 {
-    let end = count.min(table.len());
-    &table[0..end]
+    &table[..count.min(table.len())]
 }
 
 impl Action {
@@ -45,24 +44,15 @@ impl Book {
     pub fn level_of(&self, resource: usize) -> u32
         ensures { result ≡ level (means self.now) resource }
     {
-        let levels = self.used_levels();
-        if resource < levels.len() {
-            u32::from(levels[resource])
-        } else {
-            0
-        }
+        let level = self.used_levels().get(resource).copied();
+        level.map_or(0, u32::from)
     }
 
     /// The set of a device's cells, which is empty past the last device.
     pub fn cells_of(&self, device: usize) -> u32
         ensures { result ≡ cells_of (means self.now) device }
     {
-        let cells = self.used_cells();
-        if device < cells.len() {
-            cells[device]
-        } else {
-            0
-        }
+        self.used_cells().get(device).copied().unwrap_or(0)
     }
 
     pub fn used_rules(&self) -> &[Rule]
