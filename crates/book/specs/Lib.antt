@@ -5,5 +5,6 @@ pub mod Sides
 pub mod Small
 pub mod Means
 pub mod Spelling
+pub mod Shifted
 pub mod Reads
 pub mod Parts
