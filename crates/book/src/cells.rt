@@ -2,12 +2,12 @@
 ghost use Rattle.std.specs.Prelude.{◌≡◌, ◌+◌, ◌*◌, ◌^◌, ◌<◌};
 ghost use Rattle.meaning.specs.Book as meant;
 ghost use Rattle.meaning.specs.Layout.{rules_from, code_from};
-ghost use Rattle.meaning.specs.Parsed.{code_at, slots_at, rule_at};
+ghost use Rattle.meaning.specs.Parsed.{slots_at, rule_at};
 ghost use Rattle.meaning.specs.Reading.{carrier_checked, rule_cells_checked, clause_cells_checked, cells_checked};
 ghost use Rattle.book.specs.Plan.{plan};
 ghost use Rattle.book.specs.Small.{Slots};
 
-use super::bytes::{byte, four, piece, two};
+use super::bytes::{byte, four, two};
 use super::file::{File, Parsed};
 use super::refusal::refusal;
 use super::sets::{reads, with_member};
@@ -19,18 +19,6 @@ use meaning::through;
 const CLAUSE_PLACE: usize = 32;
 
 impl File<'_> {
-    /// The code that the pair at `at` names.
-    fn code(&self, at: usize) -> &[u8]
-        requires { at < 2 ^ 16 }
-        ensures { result.now ≡ code_at self.now.bytes.now (code_from (plan self.now.layout)) at }
-    {
-        piece(
-            self.bytes,
-            self.layout.code_from() + usize::from(two(self.bytes, at)),
-            usize::from(two(self.bytes, at + 2)),
-        )
-    }
-
     /// What the slots of the action at `at` read, and their targets where they are wanted, beside the members of `set`.
     fn gathered(&self, targets: bool, set: u32, at: usize, count: u8) -> u32
         requires place { at < 2 ^ 15 }

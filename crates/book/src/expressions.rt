@@ -5,11 +5,13 @@ ghost use Rattle.meaning.specs.Reading.{expression_checked, values_checked, rule
 ghost use Rattle.book.specs.Plan.{plan};
 ghost use Rattle.book.specs.Scopes.{scoped};
 
-use super::bytes::{byte, piece, two};
+use super::bytes::byte;
 use super::file::File;
 use super::opcode::{front, row_of};
 use super::refusal::refusal;
+use super::rule::Span;
 use super::scope::Scope;
+use super::spelling::spelt_at;
 use fault::{BookCause, Fault};
 use meaning::{Instruction, through};
 
@@ -57,20 +59,20 @@ fn first_wrong(code: &[u8], scope: Scope) -> Option<usize>
 
 impl File<'_> {
     /// The expression that the pair at `at` names has 1 to 64 bytes, and each of its instructions may stand.
+    #[tactic(auto, unfolding(meaning::specs::Reading::expression_checked))]
     fn expression(&self, receiver: bool, at: usize) -> Result<(), Fault>
-        requires { at < 2 ^ 16 }
         ensures { result ≡ expression_checked self.now.bytes.now (plan self.now.layout) receiver at }
     {
-        let from = self.layout.code_from() + usize::from(two(self.bytes, at));
-        let size = two(self.bytes, at + 2);
-        if size < 1 || size > LONGEST {
+        let span: Span = spelt_at(self.bytes, at);
+        let from = self.layout.code_from() + usize::from(span.from);
+        if span.size < 1 || span.size > LONGEST {
             return Err(refusal(BookCause::Expression, from, 0));
         }
         let scope = Scope {
             resources: self.layout.resources,
             receiver,
         };
-        match first_wrong(piece(self.bytes, from, usize::from(size)), scope) {
+        match first_wrong(self.code(at), scope) {
             Some(inside) => Err(refusal(BookCause::Expression, from, inside)),
             None => Ok(()),
         }
