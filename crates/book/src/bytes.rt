@@ -33,7 +33,6 @@ pub(crate) fn rest(bytes: &[u8], from: usize) -> &[u8]
 pub(crate) fn piece(bytes: &[u8], from: usize, count: usize) -> &[u8]
     ensures { result.now ≡ part bytes.now from count }
 {
-    let from = from.min(bytes.len());
-    let count = count.min(bytes.len() - from);
-    &bytes[from..from + count]
+    let rest = rest(bytes, from);
+    rest.get(..count).unwrap_or(rest)
 }

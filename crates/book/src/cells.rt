@@ -52,6 +52,7 @@ impl File<'_> {
 
 impl Parsed<'_> {
     /// The cells that each carrier of the rule `i` must have.
+    #[tactic(auto, unfolding(meaning::specs::Parsed::rule_at))]
     fn needs(&self, i: usize) -> u32
         requires { i < self.now.file.layout.rules }
         ensures { result ≡ meant.needs (rule_at self.now.file.bytes.now (code_from (plan self.now.file.layout)) (rules_from (plan self.now.file.layout) + 53 * i)) }
@@ -80,6 +81,7 @@ impl Parsed<'_> {
     }
 
     /// The device of the clause `i` has the cells that the clause reads.
+    #[tactic(auto, unfolding(meaning::specs::Reading::clause_cells_checked))]
     fn clause(&self, i: usize) -> Result<(), Fault>
         requires { i < self.now.file.layout.clauses }
         ensures { result ≡ clause_cells_checked self.now.file.bytes.now (plan self.now.file.layout) i tt }
