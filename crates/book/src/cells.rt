@@ -2,10 +2,10 @@
 ghost use Rattle.std.specs.Prelude.{◌≡◌, ◌+◌, ◌*◌, ◌^◌, ◌<◌};
 ghost use Rattle.meaning.specs.Book as meant;
 ghost use Rattle.meaning.specs.Layout.{rules_from, code_from};
-ghost use Rattle.meaning.specs.Parsed.{slots_at, rule_at};
+ghost use Rattle.meaning.specs.Parsed.{slot_at, slots_at, rule_at};
 ghost use Rattle.meaning.specs.Reading.{carrier_checked, rule_cells_checked, clause_cells_checked, cells_checked};
 ghost use Rattle.book.specs.Plan.{plan};
-ghost use Rattle.book.specs.Small.{Slots};
+ghost use Rattle.book.specs.Small.{SmallSlot, Slots, with_slot};
 
 use super::bytes::{byte, four, two};
 use super::file::{File, Parsed};
@@ -19,6 +19,20 @@ use meaning::through;
 const CLAUSE_PLACE: usize = 32;
 
 impl File<'_> {
+    /// What the slot at `at` reads, and its target where that is wanted, beside the members of `set`.
+    fn with_slot(&self, target: bool, set: u32, at: usize) -> u32
+        requires place { at < 2 ^ 16 }
+        requires small { SmallSlot self.now.bytes.now (code_from (plan self.now.layout)) at }
+        ensures { result ≡ with_slot target set (slot_at self.now.bytes.now (code_from (plan self.now.layout)) at) }
+    {
+        let set = if target {
+            with_member(set, byte(self.bytes, at))
+        } else {
+            set
+        };
+        reads(set, self.code(at + 1), Side::Own)
+    }
+
     /// What the slots of the action at `at` read, and their targets where they are wanted, beside the members of `set`.
     fn gathered(&self, targets: bool, set: u32, at: usize, count: u8) -> u32
         requires place { at < 2 ^ 15 }
@@ -27,11 +41,7 @@ impl File<'_> {
     {
         let mut set = set;
         for k in 0..usize::from(count) {
-            let place = at + 5 * k;
-            if targets {
-                set = with_member(set, byte(self.bytes, place));
-            }
-            set = reads(set, self.code(place + 1), Side::Own);
+            set = self.with_slot(targets, set, at + 5 * k);
         }
         set
     }
