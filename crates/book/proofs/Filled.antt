@@ -10,7 +10,7 @@ use Rattle.meaning.specs.Parsed.{expression_at, slot_at, slots_at, rule_at, clau
 use Rattle.book.specs.declared.rule.Slot.{Slot}
 use Rattle.book.specs.declared.rule.Kind.TheVariants.{Local, Remote}
 use Rattle.book.specs.Means.{spanned, slot_means, action_means, is_remote, rule_means, clause_means}
-use Rattle.book.specs.Spelling.{span_spelt, slot_spelt, action_spelt, rule_spelt, clause_spelt}
+use Rattle.book.specs.Spelling.{span_spelt, slot_spelt, slots_spelt, rule_spelt, clause_spelt}
 
 -- lists of one length that agree at each place
 pub same_at : {X : Type 0} (f g : ℕ → X) (a n : ℕ) → ((k : ℕ) → k < a + n → f k ≡ g k) → map f (range_with_len a n) ≡ map g (range_with_len a n)
@@ -24,7 +24,7 @@ module _ (bs : List ℕ) (c : ℕ) where
   spelt_slot : (p : ℕ) → slot_means (drop c bs) (slot_spelt bs p) ≡ slot_at bs c p
   spelt_slot p = λ i. record { target = byte_at bs p; value = span_means (p + 1) i }
 
-  spelt_action : (p count : ℕ) → count ≤ 4 → action_means (drop c bs) (action_spelt bs p count) ≡ slots_at bs c p count
+  spelt_action : (p count : ℕ) → count ≤ 4 → action_means (drop c bs) (record { count = count; slots = slots_spelt bs p }) ≡ slots_at bs c p count
   spelt_action p count few =
       let f : ℕ → Slot = λ k. slot_spelt bs (p + 5 * k) in
       let first : p ≡ p + 5 * 0 = omega arith in

@@ -1,5 +1,5 @@
 -- What reading gives, from the answers of its parts. Assumes nothing.
-use Rattle.std.proofs.Common.{◌≡◌, ℕ, ◌+◌, ◌*◌, ◌<◌, ◌≤◌, List, length, Ok, Err, sym, refl, ap, ◌∙◌, arith}
+use Rattle.std.proofs.Common.{◌≡◌, ℕ, ◌+◌, ◌*◌, ◌<◌, ◌≤◌, List, length, IsErrAnd, Ok, Err, sym, refl, ap, ◌∙◌, subst, arith}
 use Rattle.fault.specs.declared.fault.Fault.{Fault}
 use Rattle.meaning.specs.Book.{Book}
 use Rattle.meaning.specs.Bytes.{Bytes, byte_at}
@@ -13,7 +13,7 @@ use Rattle.meaning.specs.WellFormed.{WellFormed}
 use Rattle.meaning.proofs.Complete.{complete}
 use Rattle.meaning.proofs.CompleteFile.{layout_is, room_is}
 use Rattle.meaning.proofs.Loops.{each}
-use Rattle.meaning.proofs.Rows.{both}
+use Rattle.meaning.proofs.Rows.{both, handed}
 use Rattle.meaning.proofs.Sizes.{code_fits}
 use Rattle.meaning.proofs.Sound.{sound}
 use Rattle.meaning.proofs.SoundRules.{head_right}
@@ -97,7 +97,7 @@ module _ {bs : List ℕ} {l : Layout} (framed : Framed bs l) where
           }
 
 -- a refusal leaves what was there
-pub refused_as : (bs : List ℕ) (before : Book) (f : Fault) → reading bs ≡ Err f → Read bs before before (Err f)
+refused_as : (bs : List ℕ) (before : Book) (f : Fault) → reading bs ≡ Err f → Read bs before before (Err f)
 refused_as bs before f e =
     record {
       answer = sym (ap outcome e);
@@ -105,3 +105,7 @@ refused_as bs before f e =
       accepts = λ b right same. absurd (let taken : reading bs ≡ Ok b = ap reading same ∙ complete b right in let z : ◌≡◌ {A = ℕ} 0 1 = cc in omega arith);
       encodes = λ taken. absurd (let z : ◌≡◌ {A = ℕ} 0 1 = cc in omega arith);
     }
+
+-- so does what a `?` hands on
+pub refused : {bs : List ℕ} {before : Book} {f : Fault} (r : Verdict) → IsErrAnd r (λ y. y ≡ f) → reading bs ≡ Err f → Read bs before before r
+refused {bs} {before} {f} r exit e = subst (Read bs before before) (sym (handed r exit)) (refused_as bs before f e)

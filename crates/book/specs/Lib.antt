@@ -5,6 +5,7 @@ pub mod Sides
 pub mod Small
 pub mod Means
 pub mod Spelling
+pub mod Shifted
 pub mod Reads
 pub mod Parts
 pub mod Rights

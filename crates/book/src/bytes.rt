@@ -1,37 +1,38 @@
 //! Numbers in a file, high byte first. A place past the end reads as 0.
-ghost use Rattle.std.specs.Prelude.{◌≡◌, ◌^◌, ◌<◌};
+ghost use Rattle.std.specs.Prelude.{◌≡◌, drop};
 ghost use Rattle.meaning.specs.Bytes.{byte_at, two_at, four_at, part};
+
+use super::spelling::spelt_at;
 
 pub(crate) fn byte(bytes: &[u8], at: usize) -> u8
     ensures { result ≡ byte_at bytes.now at }
 {
-    if at < bytes.len() { bytes[at] } else { 0 }
+    bytes.get(at).copied().unwrap_or(0)
 }
 
 pub(crate) fn two(bytes: &[u8], at: usize) -> u16
-    requires { at < 2 ^ 32 }
     ensures { result ≡ two_at bytes.now at }
 {
-    u16::from_be_bytes([byte(bytes, at), byte(bytes, at + 1)])
+    spelt_at(bytes, at)
 }
 
 pub(crate) fn four(bytes: &[u8], at: usize) -> u32
-    requires { at < 2 ^ 32 }
     ensures { result ≡ four_at bytes.now at }
 {
-    u32::from_be_bytes([
-        byte(bytes, at),
-        byte(bytes, at + 1),
-        byte(bytes, at + 2),
-        byte(bytes, at + 3),
-    ])
+    spelt_at(bytes, at)
+}
+
+/// The bytes from a place on.
+pub(crate) fn rest(bytes: &[u8], from: usize) -> &[u8]
+    ensures { result.now ≡ drop from bytes.now }
+{
+    bytes.get(from..).unwrap_or(&[])
 }
 
 /// The `count` bytes from a place on, or those of them that there are.
 pub(crate) fn piece(bytes: &[u8], from: usize, count: usize) -> &[u8]
     ensures { result.now ≡ part bytes.now from count }
 {
-    let from = from.min(bytes.len());
-    let count = count.min(bytes.len() - from);
-    &bytes[from..from + count]
+    let rest = rest(bytes, from);
+    rest.get(..count).unwrap_or(rest)
 }

@@ -2,12 +2,12 @@
 ghost use Rattle.std.specs.Prelude.{◌≡◌, ◌+◌, ◌*◌, ◌^◌, ◌<◌};
 ghost use Rattle.meaning.specs.Book as meant;
 ghost use Rattle.meaning.specs.Layout.{rules_from, code_from};
-ghost use Rattle.meaning.specs.Parsed.{code_at, slots_at, rule_at};
+ghost use Rattle.meaning.specs.Parsed.{slot_at, slots_at, rule_at};
 ghost use Rattle.meaning.specs.Reading.{carrier_checked, rule_cells_checked, clause_cells_checked, cells_checked};
 ghost use Rattle.book.specs.Plan.{plan};
-ghost use Rattle.book.specs.Small.{Slots};
+ghost use Rattle.book.specs.Small.{SmallSlot, Slots, with_slot};
 
-use super::bytes::{byte, four, piece, two};
+use super::bytes::{byte, four, two};
 use super::file::{File, Parsed};
 use super::refusal::refusal;
 use super::sets::{reads, with_member};
@@ -19,16 +19,18 @@ use meaning::through;
 const CLAUSE_PLACE: usize = 32;
 
 impl File<'_> {
-    /// The code that the pair at `at` names.
-    fn code(&self, at: usize) -> &[u8]
-        requires { at < 2 ^ 16 }
-        ensures { result.now ≡ code_at self.now.bytes.now (code_from (plan self.now.layout)) at }
+    /// What the slot at `at` reads, and its target where that is wanted, beside the members of `set`.
+    fn with_slot(&self, target: bool, set: u32, at: usize) -> u32
+        requires place { at < 2 ^ 16 }
+        requires small { SmallSlot self.now.bytes.now (code_from (plan self.now.layout)) at }
+        ensures { result ≡ with_slot target set (slot_at self.now.bytes.now (code_from (plan self.now.layout)) at) }
     {
-        piece(
-            self.bytes,
-            self.layout.code_from() + usize::from(two(self.bytes, at)),
-            usize::from(two(self.bytes, at + 2)),
-        )
+        let set = if target {
+            with_member(set, byte(self.bytes, at))
+        } else {
+            set
+        };
+        reads(set, self.code(at + 1), Side::Own)
     }
 
     /// What the slots of the action at `at` read, and their targets where they are wanted, beside the members of `set`.
@@ -39,11 +41,7 @@ impl File<'_> {
     {
         let mut set = set;
         for k in 0..usize::from(count) {
-            let place = at + 5 * k;
-            if targets {
-                set = with_member(set, byte(self.bytes, place));
-            }
-            set = reads(set, self.code(place + 1), Side::Own);
+            set = self.with_slot(targets, set, at + 5 * k);
         }
         set
     }
@@ -64,6 +62,7 @@ impl File<'_> {
 
 impl Parsed<'_> {
     /// The cells that each carrier of the rule `i` must have.
+    #[tactic(auto, unfolding(meaning::specs::Parsed::rule_at))]
     fn needs(&self, i: usize) -> u32
         requires { i < self.now.file.layout.rules }
         ensures { result ≡ meant.needs (rule_at self.now.file.bytes.now (code_from (plan self.now.file.layout)) (rules_from (plan self.now.file.layout) + 53 * i)) }
@@ -92,6 +91,7 @@ impl Parsed<'_> {
     }
 
     /// The device of the clause `i` has the cells that the clause reads.
+    #[tactic(auto, unfolding(meaning::specs::Reading::clause_cells_checked))]
     fn clause(&self, i: usize) -> Result<(), Fault>
         requires { i < self.now.file.layout.clauses }
         ensures { result ≡ clause_cells_checked self.now.file.bytes.now (plan self.now.file.layout) i tt }

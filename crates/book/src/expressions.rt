@@ -1,15 +1,17 @@
 //! Whether the expressions of a book are right, in code order.
-ghost use Rattle.std.specs.Prelude.{◌≡◌, ◌+◌, ◌*◌, ◌^◌, ◌<◌, ◌≤◌, false, length, IfSome};
-ghost use Rattle.meaning.specs.Expression.{named, wrong};
+ghost use Rattle.std.specs.Prelude.{◌≡◌, ◌+◌, ◌*◌, ◌^◌, ◌<◌, ◌≤◌, false, length, IfSome, if◌then◌else◌};
+ghost use Rattle.meaning.specs.Expression.{named, may_stand, deepened, wrong};
 ghost use Rattle.meaning.specs.Reading.{expression_checked, values_checked, rule_expressions_checked, expressions_checked};
 ghost use Rattle.book.specs.Plan.{plan};
 ghost use Rattle.book.specs.Scopes.{scoped};
 
-use super::bytes::{byte, piece, two};
+use super::bytes::byte;
 use super::file::File;
 use super::opcode::{front, row_of};
 use super::refusal::refusal;
+use super::rule::Span;
 use super::scope::Scope;
+use super::spelling::spelt_at;
 use fault::{BookCause, Fault};
 use meaning::{Instruction, through};
 
@@ -29,6 +31,19 @@ impl Scope {
             Instruction::Receiver(r) => usize::from(r) < self.resources && self.receiver,
         }
     }
+
+    /// The depth of the stack after an instruction, if it may stand where the stack has a depth.
+    fn deepened(&self, depth: u8, instruction: Instruction) -> Option<u8>
+        requires { depth ≤ 8 }
+        ensures value { result ≡ (if may_stand (scoped self.now) depth instruction then Some (deepened depth instruction) else None) }
+        ensures bound { IfSome result (λ d. d ≤ 8) }
+    {
+        let pops = row_of(instruction).pops;
+        if !self.names(instruction) || depth < pops || depth + 1 - pops > DEPTH {
+            return None;
+        }
+        Some(depth + 1 - pops)
+    }
 }
 
 /// Where some code is wrong: the offset of the first instruction that may not stand, or the end if the depth is not 1 there.
@@ -40,12 +55,11 @@ fn first_wrong(code: &[u8], scope: Scope) -> Option<usize>
     let mut at = 0;
     let mut depth = 0;
     while let Some((instruction, tail)) = front(rest) {
-        let row = row_of(instruction);
-        if !scope.names(instruction) || depth < row.pops || depth + 1 - row.pops > DEPTH {
-            return Some(at);
+        match scope.deepened(depth, instruction) {
+            Some(deeper) => depth = deeper,
+            None => return Some(at),
         }
-        depth = depth + 1 - row.pops;
-        at += usize::from(row.length);
+        at += usize::from(row_of(instruction).length);
         rest = tail;
     }
     if rest.is_empty() && depth == 1 {
@@ -57,20 +71,20 @@ fn first_wrong(code: &[u8], scope: Scope) -> Option<usize>
 
 impl File<'_> {
     /// The expression that the pair at `at` names has 1 to 64 bytes, and each of its instructions may stand.
+    #[tactic(auto, unfolding(meaning::specs::Reading::expression_checked))]
     fn expression(&self, receiver: bool, at: usize) -> Result<(), Fault>
-        requires { at < 2 ^ 16 }
         ensures { result ≡ expression_checked self.now.bytes.now (plan self.now.layout) receiver at }
     {
-        let from = self.layout.code_from() + usize::from(two(self.bytes, at));
-        let size = two(self.bytes, at + 2);
-        if size < 1 || size > LONGEST {
+        let span: Span = spelt_at(self.bytes, at);
+        let from = self.layout.code_from() + usize::from(span.from);
+        if span.size < 1 || span.size > LONGEST {
             return Err(refusal(BookCause::Expression, from, 0));
         }
         let scope = Scope {
             resources: self.layout.resources,
             receiver,
         };
-        match first_wrong(piece(self.bytes, from, usize::from(size)), scope) {
+        match first_wrong(self.code(at), scope) {
             Some(inside) => Err(refusal(BookCause::Expression, from, inside)),
             None => Ok(()),
         }

@@ -7,7 +7,8 @@ ghost use Rattle.book.specs.Plan.{plan};
 use super::bytes::{byte, four, two};
 use super::file::File;
 use super::refusal::refusal;
-use super::rule::SLOTS;
+use super::rule::{SLOTS, Span};
+use super::spelling::spelt_at;
 use fault::{BookCause, Fault};
 use meaning::through;
 
@@ -37,9 +38,9 @@ impl File<'_> {
         requires { at < 2 ^ 16 }
         ensures { result ≡ pair_checked self.now.bytes.now (plan self.now.layout) at next }
     {
-        let size = two(self.bytes, at + 2);
-        let end = u32::from(next) + u32::from(size);
-        if two(self.bytes, at) != next || end > u32::from(self.layout.room) {
+        let code: Span = spelt_at(self.bytes, at);
+        let end = u32::from(next) + u32::from(code.size);
+        if code.from != next || end > u32::from(self.layout.room) {
             return Err(refusal(BookCause::Field, at, 0));
         }
         Ok(end as u16)

@@ -1,10 +1,15 @@
 //! Files, by how far they are checked.
 ghost use Rattle.std.specs.Prelude.{◌≡◌, Ok};
 ghost use Rattle.meaning.specs.Bytes.{Bytes};
+ghost use Rattle.meaning.specs.Layout.{code_from};
+ghost use Rattle.meaning.specs.Parsed.{code_at};
 ghost use Rattle.meaning.specs.Reading.{fields_checked, expressions_checked, cells_checked};
 ghost use Rattle.book.specs.Plan.{plan, Framed};
 
+use super::bytes::piece;
 use super::layout::Layout;
+use super::rule::Span;
+use super::spelling::spelt_at;
 
 /// A file whose header is right, and where its sections lie.
 #[derive(Clone, Copy)]
@@ -28,4 +33,15 @@ pub(crate) struct Parsed<'a> {
 pub(crate) struct Right<'a> {
     pub parsed: Parsed<'a>,
     ghost cells: { cells_checked parsed.file.bytes.now (plan parsed.file.layout) ≡ Ok tt },
+}
+
+impl File<'_> {
+    /// The code that the pair at `at` names.
+    pub fn code(&self, at: usize) -> &[u8]
+        ensures { result.now ≡ code_at self.now.bytes.now (code_from (plan self.now.layout)) at }
+    {
+        let span: Span = spelt_at(self.bytes, at);
+        let from = self.layout.code_from() + usize::from(span.from);
+        piece(self.bytes, from, usize::from(span.size))
+    }
 }

@@ -6,31 +6,29 @@ ghost use Rattle.book.specs.Means.{means};
 ghost use Rattle.book.specs.Plan.{plan};
 
 use super::book::Book;
+use super::bytes::rest;
 use super::file::{File, Right};
 use super::offsets::{CLAUSE, HEADER, MASK, RULE, START};
 use super::spelling::Spelt;
 
 /// Fills the first `count` entries of a table from the records of `size` bytes that begin at `from`.
 fn fill_table<T: Spelt>(table: &mut [T], bytes: &[u8], from: usize, size: usize, count: usize)
-    requires room { count ≤ length table.old }
-    requires place { from < 2 ^ 15 }
-    requires record { size ≤ 53 }
-    requires few { count ≤ 512 }
+    requires { count ≤ length table.old }
     ensures { take count table.new ≡ map (λ k. T.Spelt.spelt bytes.now (from + size * k)) (range_with_len 0 count) }
 {
+    let mut records = rest(bytes, from);
     for k in 0..count {
-        table[k] = T::spelt_at(bytes, from + size * k);
+        table[k] = T::spelt_in(records);
+        records = rest(records, size);
     }
 }
 
-/// Fills the front of a table with the bytes from `from` on.
-fn fill_code(table: &mut [u8], bytes: &[u8], from: usize)
-    requires inside { from ≤ length bytes.now }
-    requires room { length bytes.now - from ≤ length table.old }
-    ensures { take (length bytes.now - from) table.new ≡ drop from bytes.now }
+/// Fills the front of a table with some code.
+fn fill_code(table: &mut [u8], code: &[u8])
+    requires { length code.now ≤ length table.old }
+    ensures { take (length code.now) table.new ≡ code.now }
 {
-    let code = &bytes[from..];
-    table[0..code.len()].copy_from_slice(code);
+    table[..code.len()].copy_from_slice(code);
 }
 
 impl Right<'_> {
@@ -74,6 +72,6 @@ impl Right<'_> {
             CLAUSE,
             layout.clauses,
         );
-        fill_code(&mut book.code, bytes, layout.code_from());
+        fill_code(&mut book.code, rest(bytes, layout.code_from()));
     }
 }

@@ -1,13 +1,16 @@
 //! The header: first bytes, counts, and the six pairs that name the sections.
-ghost use Rattle.std.specs.Prelude.{◌≡◌, ◌*◌, ◌^◌, ◌<◌, ◌≤◌, length, Ok, Err, MatchResult};
+ghost use Rattle.std.specs.Prelude.{◌≡◌, ◌*◌, ◌^◌, ◌<◌, ◌≤◌, ◌&&◌, length, nat_le, Ok, Err, MatchResult};
+ghost use Rattle.meaning.specs.Bytes.{byte_at};
+ghost use Rattle.meaning.specs.Checks.{book_fault, require};
 ghost use Rattle.meaning.specs.Layout.{layout, ones_at};
 ghost use Rattle.meaning.specs.Reading.{first_checked, counts_checked, section_right, sections_checked, checked};
-ghost use Rattle.book.specs.Plan.{Framed};
+ghost use Rattle.fault.specs.declared.fault.BookCause.TheVariants.{Frame, Count};
+ghost use Rattle.book.specs.Plan.{sized, Counted, Framed};
 
 use super::book::{CLAUSES, DEVICES, RESOURCES, RULES};
 use super::bytes::{byte, four, two};
 use super::layout::Layout;
-use super::offsets::{CLAUSE, HEADER, RULE};
+use super::offsets::{CLAUSE, HEADER, MASK, RULE, START};
 use super::refusal::refusal;
 use fault::{BookCause, Fault};
 
@@ -26,102 +29,82 @@ fn first(bytes: &[u8]) -> Result<(), Fault>
     Ok(())
 }
 
-fn counts(bytes: &[u8]) -> Result<(), Fault>
-    ensures { result ≡ counts_checked (layout bytes.now) }
+/// The count at a place of the header, which is from `least` to `most`.
+fn count(bytes: &[u8], at: usize, least: usize, most: usize) -> Result<usize, Fault>
+    requires { at < 32 }
+    ensures { result ≡ require (nat_le least (byte_at bytes.now at) && nat_le (byte_at bytes.now at) most) (book_fault Count at 0) (Ok (byte_at bytes.now at)) }
 {
-    let devices = usize::from(byte(bytes, 4));
-    if devices < 1 || devices > DEVICES {
-        return Err(refusal(BookCause::Count, 4, 0));
+    let count = usize::from(byte(bytes, at));
+    if count < least || count > most {
+        return Err(refusal(BookCause::Count, at, 0));
     }
-    let resources = usize::from(byte(bytes, 5));
-    if resources < 1 || resources > RESOURCES {
-        return Err(refusal(BookCause::Count, 5, 0));
-    }
-    if usize::from(byte(bytes, 6)) > RULES {
-        return Err(refusal(BookCause::Count, 6, 0));
-    }
-    if usize::from(byte(bytes, 7)) > CLAUSES {
-        return Err(refusal(BookCause::Count, 7, 0));
-    }
-    Ok(())
+    Ok(count)
 }
 
 /// How many ones the masks of some devices have together.
 fn ones(bytes: &[u8], from: usize, devices: usize) -> usize
-    requires { (from ≤ 64) × (devices ≤ 16) }
+    requires place { from ≤ 64 }
+    requires few { devices ≤ 16 }
     ensures value { result ≡ ones_at bytes.now from devices }
     ensures bound { result ≤ 32 * devices }
 {
-    let mut sum = 0;
-    for d in 0..devices {
-        sum += four(bytes, from + 4 * d).count_ones() as usize;
-    }
-    sum
+    let ones: u32 = (0..devices)
+        .map(|d| four(bytes, from + MASK * d).count_ones())
+        .sum();
+    ones as usize
 }
 
-/// The pair at `at` says where a section has to begin and how long it has to be, and the section ends inside the file.
-fn names(bytes: &[u8], at: usize, from: usize, size: usize) -> bool
-    requires { (at < 32) × (from < 2 ^ 32) }
-    ensures { result ≡ section_right bytes.now at from size }
+/// The counts of a book, and of its cells and code.
+fn counts(bytes: &[u8]) -> Result<Layout, Fault>
+    ensures { MatchResult result (λ l. Counted bytes.now l) (λ f. counts_checked (layout bytes.now) ≡ Err f) }
 {
-    let inside = from <= bytes.len() && size <= bytes.len() - from;
-    usize::from(two(bytes, at)) == from && usize::from(two(bytes, at + 2)) == size && inside
-}
-
-/// The six sections in their order, which begin where the last ended; the code ends the file.
-fn sections(
-    bytes: &[u8],
-    devices: usize,
-    resources: usize,
-    rules: usize,
-    clauses: usize,
-    cells: usize,
-) -> Result<(), Fault>
-    requires { (devices ≤ 16) × ((resources ≤ 32) × ((rules ≤ 32) × ((clauses ≤ 32) × (cells ≤ 512)))) }
-    ensures { result ≡ sections_checked bytes.now (record { devices = devices; resources = resources; rules = rules; clauses = clauses; cells = cells; size = length bytes.now }) }
-{
-    let cells_from = HEADER + resources;
-    let starts_from = cells_from + 4 * devices;
-    let rules_from = starts_from + 4 * cells;
-    let clauses_from = rules_from + RULE * rules;
-    let code_from = clauses_from + CLAUSE * clauses;
-    let at = if !names(bytes, 8, HEADER, resources) {
-        8
-    } else if !names(bytes, 12, cells_from, 4 * devices) {
-        12
-    } else if !names(bytes, 16, starts_from, 4 * cells) {
-        16
-    } else if !names(bytes, 20, rules_from, RULE * rules) {
-        20
-    } else if !names(bytes, 24, clauses_from, CLAUSE * clauses) {
-        24
-    } else if !names(bytes, 28, code_from, bytes.len().saturating_sub(code_from)) {
-        28
-    } else {
-        return Ok(());
-    };
-    Err(refusal(BookCause::Frame, at, 0))
-}
-
-/// The layout of a file whose header is right.
-pub(crate) fn header(bytes: &[u8]) -> Result<Layout, Fault>
-    ensures { MatchResult result (λ l. Framed bytes.now l) (λ f. checked bytes.now (layout bytes.now) ≡ Err f) }
-{
-    first(bytes)?;
-    counts(bytes)?;
-    let devices = usize::from(byte(bytes, 4));
-    let resources = usize::from(byte(bytes, 5));
-    let rules = usize::from(byte(bytes, 6));
-    let clauses = usize::from(byte(bytes, 7));
-    let cells = ones(bytes, HEADER + resources, devices);
-    sections(bytes, devices, resources, rules, clauses, cells)?;
-    let room = two(bytes, 30);
+    let devices = count(bytes, 4, 1, DEVICES)?;
+    let resources = count(bytes, 5, 1, RESOURCES)?;
+    let rules = count(bytes, 6, 0, RULES)?;
+    let clauses = count(bytes, 7, 0, CLAUSES)?;
     Ok(Layout {
         devices,
         resources,
         rules,
         clauses,
-        cells,
-        room,
+        cells: ones(bytes, HEADER + resources, devices),
+        room: two(bytes, 30),
     })
+}
+
+/// The pair at `at` says where a section has to begin and how long it has to be, and the section ends inside the file.
+fn section(bytes: &[u8], at: usize, from: usize, size: usize) -> Result<(), Fault>
+    requires place { at < 32 }
+    requires start { from < 2 ^ 32 }
+    ensures { result ≡ require (section_right bytes.now at from size) (book_fault Frame at 0) (Ok tt) }
+{
+    let inside = from <= bytes.len() && size <= bytes.len() - from;
+    if inside && usize::from(two(bytes, at)) == from && usize::from(two(bytes, at + 2)) == size {
+        return Ok(());
+    }
+    Err(refusal(BookCause::Frame, at, 0))
+}
+
+/// The six sections in their order, which begin where the last ended; the code ends the file.
+fn sections(bytes: &[u8], layout: &Layout) -> Result<(), Fault>
+    ensures { result ≡ sections_checked bytes.now (sized (length bytes.now) layout.now) }
+{
+    let code_from = layout.code_from();
+    section(bytes, 8, HEADER, layout.resources)?;
+    section(bytes, 12, layout.cells_from(), MASK * layout.devices)?;
+    section(bytes, 16, layout.starts_from(), START * layout.cells)?;
+    section(bytes, 20, layout.rules_from(), RULE * layout.rules)?;
+    section(bytes, 24, layout.clauses_from(), CLAUSE * layout.clauses)?;
+    section(bytes, 28, code_from, bytes.len().saturating_sub(code_from))
+}
+
+/// The layout of a file whose header is right.
+#[tactic(auto, unfolding(meaning::specs::Reading::checked))]
+pub(crate) fn header(bytes: &[u8]) -> Result<Layout, Fault>
+    ensures { MatchResult result (λ l. Framed bytes.now l) (λ f. checked bytes.now (layout bytes.now) ≡ Err f) }
+{
+    first(bytes)?;
+    let layout = counts(bytes)?;
+    sections(bytes, &layout)?;
+    Ok(layout)
 }

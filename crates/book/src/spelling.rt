@@ -1,95 +1,150 @@
-//! Values that a file spells at a place.
-ghost use Rattle.std.specs.Prelude.{◌≡◌, ℕ, ◌+◌, ◌-◌, ◌^◌, ◌<◌, List};
-ghost use Rattle.meaning.specs.Bytes.{byte_at, four_at};
+//! Values that the bytes of a file spell.
+ghost use Rattle.std.specs.Prelude.{◌≡◌, ℕ, ◌+◌, List, drop};
+ghost use Rattle.meaning.specs.Bytes.{byte_at, two_at, four_at};
 ghost use Rattle.meaning.specs.Parsed.{start_at};
-ghost use Rattle.book.specs.Spelling.{span_spelt, slot_spelt, action_spelt, rule_spelt, clause_spelt};
+ghost use Rattle.book.specs.Spelling.{kind_spelt, span_spelt, slot_spelt, slots_spelt, rule_spelt, clause_spelt};
+ghost use Rattle.book.specs.Shifted.{byte_shifted, two_shifted, four_shifted, start_shifted, kind_shifted, span_shifted, slot_shifted, slots_shifted, rule_shifted, clause_shifted};
 
-use super::bytes::{byte, four, two};
-use super::rule::{Action, Clause, Kind, Rule, Slot, Span};
+use super::bytes::{byte, rest};
+use super::rule::{Action, Clause, Kind, Rule, SLOTS, Slot, Span};
 
-/// A value that a file spells at each place.
+/// A value that bytes spell.
 pub trait Spelt: Copy {
     ghost spelt: { List ℕ → ℕ → Self };
 
-    fn spelt_at(bytes: &[u8], at: usize) -> Self
-        requires { at < 2 ^ 16 }
-        ensures { result ≡ spelt bytes.now at };
+    /// The value that the first bytes spell.
+    fn spelt_in(bytes: &[u8]) -> Self
+        ensures { result ≡ spelt bytes.now 0 };
+
+    ghost shifted: { (bs : List ℕ) (at k : ℕ) → spelt (drop at bs) k ≡ spelt bs (at + k) };
+}
+
+/// The value that the bytes from a place on spell.
+pub(crate) fn spelt_at<T: Spelt>(bytes: &[u8], at: usize) -> T
+    ensures { result ≡ T.spelt bytes.now at }
+{
+    T::spelt_in(rest(bytes, at))
 }
 
 impl Spelt for u8 {
     ghost spelt = { byte_at };
 
-    fn spelt_at(bytes: &[u8], at: usize) -> u8 {
-        byte(bytes, at)
+    ghost shifted = { byte_shifted };
+
+    fn spelt_in(bytes: &[u8]) -> u8 {
+        byte(bytes, 0)
+    }
+}
+
+impl Spelt for u16 {
+    ghost spelt = { two_at };
+
+    ghost shifted = { two_shifted };
+
+    fn spelt_in(bytes: &[u8]) -> u16 {
+        u16::from_be_bytes([byte(bytes, 0), byte(bytes, 1)])
     }
 }
 
 impl Spelt for u32 {
     ghost spelt = { four_at };
 
-    fn spelt_at(bytes: &[u8], at: usize) -> u32 {
-        four(bytes, at)
+    ghost shifted = { four_shifted };
+
+    fn spelt_in(bytes: &[u8]) -> u32 {
+        u32::from_be_bytes([
+            byte(bytes, 0),
+            byte(bytes, 1),
+            byte(bytes, 2),
+            byte(bytes, 3),
+        ])
     }
 }
 
 impl Spelt for i32 {
     ghost spelt = { start_at };
 
-    fn spelt_at(bytes: &[u8], at: usize) -> i32 {
-        four(bytes, at).cast_signed()
+    ghost shifted = { start_shifted };
+
+    fn spelt_in(bytes: &[u8]) -> i32 {
+        u32::spelt_in(bytes).cast_signed()
     }
 }
 
-fn span(bytes: &[u8], at: usize) -> Span
-    requires { at < 2 ^ 17 }
-    ensures { result ≡ span_spelt bytes.now at }
-{
-    Span {
-        from: two(bytes, at),
-        size: two(bytes, at + 2),
+impl Spelt for Kind {
+    ghost spelt = { kind_spelt };
+
+    ghost shifted = { kind_shifted };
+
+    fn spelt_in(bytes: &[u8]) -> Kind {
+        if byte(bytes, 0) == 1 {
+            Kind::Remote
+        } else {
+            Kind::Local
+        }
     }
 }
 
-fn slot(bytes: &[u8], at: usize) -> Slot
-    requires { at < 2 ^ 17 - 1 }
-    ensures { result ≡ slot_spelt bytes.now at }
-{
-    Slot {
-        target: byte(bytes, at),
-        value: span(bytes, at + 1),
+impl Spelt for Span {
+    ghost spelt = { span_spelt };
+
+    ghost shifted = { span_shifted };
+
+    fn spelt_in(bytes: &[u8]) -> Span {
+        Span {
+            from: spelt_at(bytes, 0),
+            size: spelt_at(bytes, 2),
+        }
     }
 }
 
-fn action(bytes: &[u8], at: usize, count: u8) -> Action
-    requires { at < 2 ^ 16 + 2 ^ 15 }
-    ensures { result ≡ action_spelt bytes.now at count }
-{
-    Action {
-        count,
-        slots: [
-            slot(bytes, at),
-            slot(bytes, at + 5),
-            slot(bytes, at + 10),
-            slot(bytes, at + 15),
-        ],
+impl Spelt for Slot {
+    ghost spelt = { slot_spelt };
+
+    ghost shifted = { slot_shifted };
+
+    fn spelt_in(bytes: &[u8]) -> Slot {
+        Slot {
+            target: spelt_at(bytes, 0),
+            value: spelt_at(bytes, 1),
+        }
+    }
+}
+
+impl Spelt for [Slot; SLOTS] {
+    ghost spelt = { slots_spelt };
+
+    ghost shifted = { slots_shifted };
+
+    fn spelt_in(bytes: &[u8]) -> [Slot; SLOTS] {
+        [
+            spelt_at(bytes, 0),
+            spelt_at(bytes, 5),
+            spelt_at(bytes, 10),
+            spelt_at(bytes, 15),
+        ]
     }
 }
 
 impl Spelt for Rule {
     ghost spelt = { rule_spelt };
 
-    fn spelt_at(bytes: &[u8], at: usize) -> Rule {
+    ghost shifted = { rule_shifted };
+
+    fn spelt_in(bytes: &[u8]) -> Rule {
         Rule {
-            carriers: two(bytes, at),
-            events: four(bytes, at + 2),
-            kind: if byte(bytes, at + 6) == 1 {
-                Kind::Remote
-            } else {
-                Kind::Local
+            carriers: spelt_at(bytes, 0),
+            events: spelt_at(bytes, 2),
+            kind: spelt_at(bytes, 6),
+            condition: spelt_at(bytes, 9),
+            defaults: Action {
+                count: spelt_at(bytes, 7),
+                slots: spelt_at(bytes, 13),
             },
-            condition: span(bytes, at + 9),
-            defaults: action(bytes, at + 13, byte(bytes, at + 7)),
-            tasks: action(bytes, at + 33, byte(bytes, at + 8)),
+            tasks: Action {
+                count: spelt_at(bytes, 8),
+                slots: spelt_at(bytes, 33),
+            },
         }
     }
 }
@@ -97,10 +152,12 @@ impl Spelt for Rule {
 impl Spelt for Clause {
     ghost spelt = { clause_spelt };
 
-    fn spelt_at(bytes: &[u8], at: usize) -> Clause {
+    ghost shifted = { clause_shifted };
+
+    fn spelt_in(bytes: &[u8]) -> Clause {
         Clause {
-            device: byte(bytes, at),
-            test: span(bytes, at + 1),
+            device: spelt_at(bytes, 0),
+            test: spelt_at(bytes, 1),
         }
     }
 }

@@ -1,6 +1,5 @@
 -- The resources of the clause are small, as those of each that was checked.
-use Rattle.std.proofs.Common.{arith, rules}
-use Rattle.meaning.specs.Reading.{clause_cells_checked}
+use Rattle.std.proofs.Common.{arith}
 use Rattle.book.specs.Plan.{plan}
 use Rattle.book.proofs.Smallness.{clauses_small}
 use Rattle.book.proofs.file.Parsed.clause.Goals as goal
@@ -10,11 +9,3 @@ reads-needed-requires c =
     let file = c.args.self.now.file in
     let small = clauses_small file.bytes.now (plan file.layout) file.fits (omega arith) c.args.self.now.expressions c.args.i c.requires in
     cc
-
-pub returns-then-needed-cells : goal.returns-then-needed-cells
-unfolding clause_cells_checked
-returns-then-needed-cells c = search rules
-
-pub returns : goal.returns
-unfolding clause_cells_checked
-returns c = search rules

@@ -1,7 +1,6 @@
 -- The resources of the rule are small, as those of each that was checked.
-use Rattle.std.proofs.Common.{sym, subst, rules, arith}
+use Rattle.std.proofs.Common.{sym, subst, arith}
 use Rattle.meaning.specs.Layout.{code_from}
-use Rattle.meaning.specs.Parsed.{rule_at}
 use Rattle.book.specs.Plan.{plan}
 use Rattle.book.specs.Small.{Rules}
 use Rattle.book.proofs.Smallness.{rules_small}
@@ -23,7 +22,3 @@ gathered-set-requires-clause-small c k h =
 pub gathered-requires-clause-small : goal.gathered-requires-clause-small
 gathered-requires-clause-small c k h =
     (small (goal.at.gathered-requires-clause-small c).After-rule_from-at).tasks k (omega arith)
-
-pub returns : goal.returns
-unfolding rule_at
-returns c = search rules
