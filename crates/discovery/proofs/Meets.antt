@@ -1,53 +1,63 @@
 -- The meet of the members of a set, one after the other, is their greatest lower bound, and there is but one. Assumes nothing.
-use Rattle.std.proofs.Common.{◌≡◌, ℕ, ◌<◌, ◌≤◌, true, false, List, [], ◌∷◌, length, sym, refl, ap, ◌∙◌, subst, ⊎_elim, arith}
-use Rattle.std.specs.List.{AllByRecursion as All}
+use Rattle.std.proofs.Common.{◌≡◌, ℕ, Option, None, Some, ◌^◌, ◌<◌, ◌≤◌, true, List, [], ◌∷◌, map, length, sym, refl, ap, ◌∙◌, subst, ⊎_elim, arith}
+use Rattle.std.specs.List.{fold, reduce, AllByRecursion as All}
+use Rattle.std.specs.Option.{MatchOption, unwrap_or}
+use Rattle.std.specs.Iterator.{ActsAsOnTwo}
+use Rattle.std.specs.Iterator.Runs.{Run, IsReduceRun}
+use denote.Param.Members.{Mut}
 use Rattle.std.proofs.ByRecursion.{All-weaker}
-use Rattle.std.proofs.lemmas.Bool.{and_cases, and_parts, eqb-true, not-false, both_ways}
+use Rattle.std.proofs.lemmas.Bool.{both_ways}
+use Rattle.std.proofs.lemmas.List.{nil_from_length}
 use Rattle.meaning.specs.Book.{Book, Slot, resources}
 use Rattle.meaning.specs.Flow.{level, set_by}
-use Rattle.meaning.specs.Levels.{Order, Lawful, Meets}
+use Rattle.meaning.specs.Levels.{Order, Lawful, Meets, Meeting}
 use Rattle.meaning.specs.Sets.{has, with_member}
 use Rattle.runs.specs.Promises.{Accepted}
 use Rattle.runs.specs.Update.{level_of}
 use Rattle.runs.proofs.Downward.{level_there, level_below, level_above}
 use Rattle.runs.proofs.Members.{has_cases, none_has}
 use Rattle.runs.proofs.Sources.{Slotted, set_all}
-use Rattle.discovery.specs.Members.{Without}
+use Rattle.discovery.specs.Members.{members_of}
 use Rattle.discovery.specs.Plans.{Comparable, Greatest}
+use Rattle.discovery.proofs.Walks.{lowest_first, each_member, of_each_member}
 
--- `left` are the members of a set that are still to be met
-pub record MeetingSoFar (o : Order) (level : ℕ → ℕ) (set left m : ℕ) : Type 0 where
-  pub inside : m < o.count
-  pub lower : (t : ℕ) → has set t ≡ true → has left t ≡ false → o.below m (level t) ≡ true
-  pub above : (c : ℕ) → ((t : ℕ) → has set t ≡ true → o.below c (level t) ≡ true) → o.below c m ≡ true
-  pub among : (t : ℕ) → has left t ≡ true → has set t ≡ true
+-- what `reduce` gives of the items of a run, where its closure computes h
+pub reduced : {S A F : Type 0} {steps : S → Option A → S → Type 0} (p : Run steps) (g : Mut F (A × (A × Unit {0})) A) (f : F) (h : A → A → A) → ActsAsOnTwo g f h → (r : Option A) → MatchOption r (p.len ≡ 0) (IsReduceRun p g f) → r ≡ reduce h p.items
+reduced p g f h acts None none = ap (reduce h) (sym (nil_from_length p.items (sym p.long ∙ none)))
+reduced p g f h acts (Some y) some = ap Some (some.1.3 h acts) ∙ ap (reduce h) (sym some.1.2)
 
-module _ (o : Order) (M : Meets) (level : ℕ → ℕ) (set : ℕ) (comparable : Comparable o M level set) where
-  pub first_met : (t left : ℕ) → has set t ≡ true → Without set t left → MeetingSoFar o level set left (level t)
-  first_met t left h less =
-      let inside = comparable.inside t h in
+module _ (o : Order) (M : Meets) (level : ℕ → ℕ) (lawful : Lawful o) (meeting : Meeting o M) where
+  -- the meet of a level and those of some resources is at or below each
+  met_below : (ts : List ℕ) (m : ℕ) → m < o.count → All (λ t. level t < o.count) ts → (o.below (fold M.meet m (map level ts)) m ≡ true) × All (λ t. o.below (fold M.meet m (map level ts)) (level t) ≡ true) ts
+  met_below [] m inside levels = (lawful.reflexive m inside, tt)
+  met_below (t ∷ ts) m inside levels =
+      let left_of = meeting.at_left m (level t) inside levels.0 in
+      let right_of = meeting.at_right m (level t) inside levels.0 in
+      let rest = met_below ts (M.meet m (level t)) (lawful.left_inside _ m left_of) levels.1 in
+      let trans = lawful.transitive (fold M.meet (M.meet m (level t)) (map level ts)) (M.meet m (level t)) in
+      (trans m rest.0 left_of, (trans (level t) rest.0 right_of, rest.1))
+
+  -- and what is at or below each is at or below it
+  met_above : (ts : List ℕ) (m c : ℕ) → o.below c m ≡ true → All (λ t. o.below c (level t) ≡ true) ts → o.below c (fold M.meet m (map level ts)) ≡ true
+  met_above [] m c under all = under
+  met_above (t ∷ ts) m c under all =
+      met_above ts (M.meet m (level t)) c (meeting.greatest m (level t) c under all.0) all.1
+
+module _ (o : Order) (M : Meets) (level : ℕ → ℕ) (set : ℕ) (comparable : Comparable o M level set) (small : set < 2 ^ 32) where
+  -- the meet of their levels is the greatest level at or below each
+  meet_from : (t : ℕ) (ts : List ℕ) → members_of set ≡ t ∷ ts → Greatest o level set (fold M.meet (level t) (map level ts))
+  meet_from t ts walk =
+      let levels = subst (All (λ r. level r < o.count)) walk (each_member _ set comparable.inside) in
+      let below = met_below o M level comparable.lawful comparable.meeting ts (level t) levels.0 levels.1 in
       record {
-        inside = inside;
-        lower = λ r here gone. ⊎_elim (λ no'. absurd (both_ways _ no' here)) (λ same. subst (λ x. o.below (level t) (level x) ≡ true) (sym (eqb-true r t (not-false _ same))) (comparable.lawful.reflexive (level t) inside)) (and_cases (has set r) _ (sym (less.others r) ∙ gone));
-        above = λ c all. all t h;
-        among = λ r here. (and_parts (has set r) _ (sym (less.others r) ∙ here)).0;
+        lower = of_each_member _ set small (subst (All _) (sym walk) below);
+        above = λ c all. let each = subst (All _) walk (each_member _ set all) in met_above o M level comparable.lawful comparable.meeting ts (level t) c each.0 each.1;
       }
 
-  pub next_met : (m t left rest : ℕ) → MeetingSoFar o level set left m → has left t ≡ true → Without left t rest → MeetingSoFar o level set rest (M.meet m (level t))
-  next_met m t left rest so_far h less =
-      let inside = comparable.inside t (so_far.among t h) in
-      let left_of = comparable.meeting.at_left m (level t) so_far.inside inside in
-      let right_of = comparable.meeting.at_right m (level t) so_far.inside inside in
-      let trans = comparable.lawful.transitive (M.meet m (level t)) in
-      record {
-        inside = comparable.lawful.left_inside _ m left_of;
-        lower = λ r here gone. ⊎_elim (λ out. trans m (level r) left_of (so_far.lower r here out)) (λ same. subst (λ x. o.below (M.meet m (level t)) (level x) ≡ true) (sym (eqb-true r t (not-false _ same))) right_of) (and_cases (has left r) _ (sym (less.others r) ∙ gone));
-        above = λ c all. comparable.meeting.greatest m (level t) c (so_far.above c all) (all t (so_far.among t h));
-        among = λ r here. so_far.among r (and_parts (has left r) _ (sym (less.others r) ∙ here)).0;
-      }
-
-  pub all_met : (m : ℕ) → MeetingSoFar o level set 0 m → Greatest o level set m
-  all_met m so_far = record { lower = λ t h. so_far.lower t h (none_has t); above = so_far.above }
+  pub members_met : 0 < set → (m : ℕ) → m ≡ unwrap_or (reduce M.meet (map level (members_of set))) 0 → Greatest o level set m
+  members_met some m met =
+      let walk = lowest_first set some small in
+      subst (Greatest o level set) (sym (met ∙ ap (λ ts. unwrap_or (reduce M.meet (map level ts)) 0) walk)) (meet_from _ _ walk)
 
 -- what holds of the targets of slots holds of the members of their set
 set_from : (P : ℕ → Type 0) (ss : List Slot) (m : ℕ) → ((t : ℕ) → has m t ≡ true → P t) → All (λ x. P x.target) ss → (t : ℕ) → has (set_by m ss) t ≡ true → P t

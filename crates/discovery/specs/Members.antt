@@ -1,7 +1,8 @@
--- A set without one of its members. Assumes nothing.
-use Rattle.std.specs.Prelude.{◌≡◌, ℕ, ◌<◌, not, ◌&&◌, ◌==◌}
+-- The members of a set of resources, one after the other. Assumes nothing.
+use Rattle.std.specs.Prelude.{ℕ, List, filter}
+use Rattle.std.specs.List.{range_with_len}
 use Rattle.meaning.specs.Sets.{has}
 
-pub record Without (set member rest : ℕ) : Type 0 where
-  pub others : (r : ℕ) → has rest r ≡ (has set r && not (r == member))
-  pub fewer : rest < set
+-- from the lowest on
+unfoldable pub members_of : ℕ → List ℕ
+members_of set = filter (has set) (range_with_len 0 32)

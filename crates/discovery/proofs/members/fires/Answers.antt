@@ -1,14 +1,13 @@
--- An event that changed is shared, and one that did not may be left out.
-use Rattle.std.proofs.Common.{sym, ◌∙◌}
-use Rattle.std.proofs.lemmas.Bool.{eq-eqb, ne_eqb}
-use Rattle.runs.proofs.Members.{share_from}
-use Rattle.discovery.proofs.Walks.{share_less}
+-- The members of a set are asked for one after the other.
+use Rattle.std.proofs.Common.{rules, sym, ap, ◌∙◌}
+use borrow.Author.Tests.{tests}
+use Rattle.std.proofs.lemmas.Iterator.Consumers.{YieldsList-from_first}
+use Rattle.std.proofs.lemmas.Iterator.Search.{any_from_yields_List}
+use Rattle.meaning.specs.Sets.{has}
+use Rattle.discovery.specs.Members.{members_of}
+use Rattle.discovery.proofs.Walks.{share_listed}
 use Rattle.discovery.proofs.members.fires.Goals as goal
 
-pub returns-then-changed-event-eq1 : goal.returns-then-changed-event-eq1
-returns-then-changed-event-eq1 c =
-    sym (share_from c.loop-left.left c.args.changed c.lowest-event.result c.lowest-event.ensures.member (eq-eqb _ 1 c.if-changed-event-eq1.true)) ∙ c.loop-left.invariant
-
-pub loop-left-preserved : goal.loop-left-preserved
-loop-left-preserved c =
-    share_less c.loop-left.left c.args.changed c.lowest-event.result c.without-left.result c.without-left.ensures (ne_eqb _ 1 c.if-changed-event-eq1.false) ∙ c.loop-left.invariant
+pub returns : goal.returns
+returns c =
+    any_from_yields_List (has c.args.changed) _ _ _ c.any.ensures.ran (YieldsList-from_first (λ x. x) (λ walk. members_of walk.left) (members_of c.args.events) (ap members_of c.of.ensures)) (λ x b q k. search (rules, tests)) ∙ sym (share_listed c.args.events c.args.changed c.ranges.events.fits)
