@@ -3,7 +3,6 @@ pub mod Walk
 pub mod Filled
 pub mod Outcome
 pub mod Smallness
-pub mod Past
 pub mod Rightness
 pub mod Numbering
 pub mod Parts

@@ -12,11 +12,8 @@ use super::file::{File, Parsed};
 use super::refusal::refusal;
 use super::sets::{reads, with_member};
 use super::sides::Side;
-use fault::{BookCause, Fault};
+use fault::{BookCause, FIRST_CLAUSE, Fault};
 use meaning::through;
-
-/// The number by which a fault names the first clause, after the rules.
-const CLAUSE_PLACE: usize = 32;
 
 impl File<'_> {
     /// What the slot at `at` reads, and its target where that is wanted, beside the members of `set`.
@@ -102,7 +99,7 @@ impl Parsed<'_> {
         let needed = reads(0, file.code(at + 1), Side::Own);
         let cells = four(file.bytes, file.layout.mask_from(device));
         if needed & cells != needed {
-            return Err(refusal(BookCause::Cell, CLAUSE_PLACE + i, device));
+            return Err(refusal(BookCause::Cell, usize::from(FIRST_CLAUSE) + i, device));
         }
         Ok(())
     }

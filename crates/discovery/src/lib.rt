@@ -7,6 +7,7 @@ mod comparing;
 mod discovering;
 mod firing;
 mod forming;
+mod meeting;
 mod members;
 mod plan;
 mod planned;

@@ -1,22 +1,18 @@
 //! The plan of a book under an order.
 ghost use Rattle.std.specs.Prelude.{◌≡◌, ℕ, ◌<◌, length, slice_index, slice_index_or};
 ghost use Rattle.meaning.specs.Expression as meant;
-ghost use Rattle.meaning.specs.Flow.{level};
 ghost use Rattle.runs.specs.Clauses.{clause_at};
 ghost use Rattle.runs.specs.Update.{level_of};
-ghost use Rattle.levels.specs.Scales.{scaled, scaled_meets};
+ghost use Rattle.levels.specs.Scales.{scaled_meets};
 ghost use Rattle.book.specs.Means.{code_of, action_means, rule_means, means};
 ghost use Rattle.discovery.specs.declared.plan.Route as declared;
-ghost use Rattle.discovery.specs.Plans.{Comparable, Greatest, RouteOf, Routed, Ready, Planned};
+ghost use Rattle.discovery.specs.Plans.{RouteOf, Routed, Ready, Planned};
 
 use super::accepted::AcceptedBook;
-use super::members::{lowest, without};
+use super::meeting::meet_of;
 use super::plan::{Plan, Route};
-use book::{
-    Book, CLAUSES, CheckedAction, CheckedBook, CheckedClause, CheckedRule, Part, RULES, Side,
-};
+use book::{CLAUSES, CheckedAction, CheckedBook, CheckedClause, CheckedRule, Part, RULES, Side};
 use lanes::LaneNumber;
-use levels::{Order, Scale};
 use verdict::{received, targets};
 
 /// The lane of an action without targets.
@@ -27,23 +23,6 @@ const NO_ROUTE: Route = Route {
     task_lane: FIRST_LANE,
     received: 0,
 };
-
-/// The greatest level at or below each of some resources.
-fn meet_of(book: &Book, scale: &Scale, set: u32) -> u32
-    requires some { 0 < set }
-    requires comparable { Comparable (scaled scale.now) (scaled_meets scale.now) (level (means book.now)) set }
-    ensures { Greatest (scaled scale.now) (level (means book.now)) set result }
-{
-    let first = lowest(set);
-    let mut meet = book.level_of(first as usize);
-    let mut left = without(set, first);
-    while left != 0 {
-        let next = lowest(left);
-        meet = scale.meet(meet, book.level_of(next as usize));
-        left = without(left, next);
-    }
-    meet
-}
 
 /// What each clause reads.
 fn clause_reads(book: &CheckedBook<'_>) -> [u32; CLAUSES]
