@@ -7,7 +7,7 @@ ghost use Rattle.discovery.specs.Plans.{Comparable, Greatest};
 
 use super::members::Members;
 use book::Book;
-use levels::Scale;
+use levels::{Order, Scale};
 
 /// The greatest level at or below each of some resources.
 pub(crate) fn meet_of(book: &Book, scale: &Scale, set: u32) -> u32
