@@ -40,6 +40,13 @@ impl Book {
         used_of(&self.cells, self.device_count)
     }
 
+    /// The start of each cell, by device and then by resource.
+    pub fn used_starts(&self) -> &[i32]
+        ensures { result.now ≡ take self.now.cell_count self.now.starts }
+    {
+        used_of(&self.starts, self.cell_count)
+    }
+
     /// The level of a resource, or 0 past the last one.
     pub fn level_of(&self, resource: usize) -> u32
         ensures { result ≡ level (means self.now) resource }

@@ -7,7 +7,7 @@ ghost use Rattle.hosts.specs.Words.{has_cell, word};
 
 use super::cells::Cells;
 use super::host::Host;
-use book::{Book, CELLS, RESOURCES};
+use book::{CELLS, RESOURCES};
 use std::array;
 use verdict::Accepted;
 
@@ -16,14 +16,6 @@ use verdict::Accepted;
 pub struct TableHost {
     pub(crate) cells: Cells,
     pub(crate) values: [i32; CELLS],
-}
-
-/// The starts of a book's cells.
-fn used_starts(book: &Book) -> &[i32]
-    ensures { result.now ≡ (means book.now).starts }
-{
-    let count = book.cell_count.min(CELLS);
-    &book.starts[..count]
 }
 
 /// The start at a place in rows of 32, or 0 where there is no cell.
@@ -44,7 +36,7 @@ impl TableHost {
     {
         let book = accepted.book();
         let cells = Cells::of(book);
-        let starts = used_starts(book);
+        let starts = book.used_starts();
         let values = array::from_fn(|place| start(starts, &cells, place));
         TableHost { cells, values }
     }
