@@ -17,49 +17,49 @@ mod truncations;
 mod vectors;
 mod verdicts;
 
-use anyhow::anyhow;
+use anyhow::ensure;
 use counts::Count;
 use std::io;
 use tally::Tally;
 
 /// Files with known answers.
-fn known_files(rt: &HostRuntime, all: &mut Tally) -> io::Result<()> {
-    all.join(rt, vectors::accepted(rt)?)?;
-    all.join(rt, vectors::damaged(rt)?)?;
-    all.join(rt, verdicts::verdicts(rt)?)?;
-    all.join(rt, verdicts::buffers(rt)?)
+fn known_files(all: &mut Tally<'_>) -> io::Result<()> {
+    let rt = all.rt;
+    all.join(vectors::accepted(rt)?)?;
+    all.join(vectors::damaged(rt)?)?;
+    all.join(verdicts::verdicts(rt)?)?;
+    all.join(verdicts::buffers(rt)?)
 }
 
 /// Books at each limit and past it.
-fn limits(rt: &HostRuntime, all: &mut Tally) -> io::Result<()> {
-    all.join(rt, lengths::depth(rt)?)?;
-    all.join(rt, lengths::length(rt)?)?;
-    all.join(rt, counts::around(rt, Count::Devices)?)?;
-    all.join(rt, counts::around(rt, Count::Resources)?)?;
-    all.join(rt, counts::around(rt, Count::Rules)?)?;
-    all.join(rt, counts::around(rt, Count::Clauses)?)?;
-    all.join(rt, counts::slots(rt)?)?;
-    all.join(rt, extremes::extremes(rt)?)
+fn limits(all: &mut Tally<'_>) -> io::Result<()> {
+    let rt = all.rt;
+    all.join(lengths::depth(rt)?)?;
+    all.join(lengths::length(rt)?)?;
+    for count in Count::ALL {
+        all.join(counts::around(rt, count)?)?;
+    }
+    all.join(counts::slots(rt)?)?;
+    all.join(extremes::extremes(rt)?)
 }
 
 /// What is refused, and what a draft then holds.
-fn refused_files(rt: &HostRuntime, all: &mut Tally) -> io::Result<()> {
-    all.join(rt, truncations::truncations(rt)?)?;
-    all.join(rt, refusals::refusals(rt)?)?;
-    all.join(rt, refusals::first_of_two(rt)?)?;
-    all.join(rt, drafts::filled(rt)?)?;
-    all.join(rt, drafts::kept(rt)?)
+fn refused_files(all: &mut Tally<'_>) -> io::Result<()> {
+    let rt = all.rt;
+    all.join(truncations::truncations(rt)?)?;
+    all.join(refusals::refusals(rt)?)?;
+    all.join(refusals::first_of_two(rt)?)?;
+    all.join(drafts::filled(rt)?)?;
+    all.join(drafts::kept(rt)?)
 }
 
 fn run(rt: &HostRuntime) -> anyhow::Result<()> {
-    let mut all = Tally::new("all");
-    known_files(rt, &mut all)?;
-    limits(rt, &mut all)?;
-    refused_files(rt, &mut all)?;
+    let mut all = Tally::new(rt, "all");
+    known_files(&mut all)?;
+    limits(&mut all)?;
+    refused_files(&mut all)?;
     println!(rt; "{all}")?;
-    if !all.is_right() {
-        return Err(anyhow!("a case went wrong"));
-    }
+    ensure!(all.is_right(), "a case went wrong");
     Ok(())
 }
 
