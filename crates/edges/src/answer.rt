@@ -11,10 +11,12 @@ pub struct Answer(pub Result<(), Fault>);
 pub const ACCEPTED: Answer = Answer(Ok(()));
 
 impl Answer {
-    /// The answer to a file that is refused.
-    pub fn refused(cause: BookCause, place: (u32, u32)) -> Answer {
-        let layer = Layer::Book(cause);
-        Answer(Err(Fault { layer, place }))
+    /// The answer to a file that is refused, with the two numbers of the place.
+    pub fn refused(cause: BookCause, a: u32, b: u32) -> Answer {
+        Answer(Err(Fault {
+            layer: Layer::Book(cause),
+            place: (a, b),
+        }))
     }
 
     /// The answer to reading a file into a new draft.

@@ -82,7 +82,7 @@ impl Writer {
     fn put_action(&mut self, action: &[Slot]) -> Result<(), AllocError> {
         for slot in action.iter().take(SLOTS) {
             self.records.push(slot.target)?;
-            self.put_expression(slot.value.as_slice())?;
+            self.put_expression(&slot.value)?;
         }
         let unused = SLOTS.saturating_sub(action.len());
         self.records.extend(repeat_n(0, SLOT * unused))
@@ -97,28 +97,18 @@ impl Writer {
             low_byte(rule.defaults.len()),
             low_byte(rule.tasks.len()),
         ])?;
-        self.put_expression(rule.condition.as_slice())?;
-        self.put_action(rule.defaults.as_slice())?;
-        self.put_action(rule.tasks.as_slice())
+        self.put_expression(&rule.condition)?;
+        self.put_action(&rule.defaults)?;
+        self.put_action(&rule.tasks)
     }
 
     fn put_clause(&mut self, clause: &Clause) -> Result<(), AllocError> {
         self.records.push(clause.device)?;
-        self.put_expression(clause.test.as_slice())
+        self.put_expression(&clause.test)
     }
 }
 
 impl Builder {
-    pub fn new(heap: Global) -> Builder {
-        Builder {
-            levels: Vec::new(heap),
-            masks: Vec::new(heap),
-            starts: Vec::new(heap),
-            rules: Vec::new(heap),
-            clauses: Vec::new(heap),
-        }
-    }
-
     fn counts(&self) -> [u8; 4] {
         [
             self.masks.len(),
@@ -146,7 +136,7 @@ impl Builder {
     /// The records of the rules, with their code.
     fn rules(&self, heap: Global) -> Result<Writer, AllocError> {
         let mut writer = Writer::behind(heap, Vec::new(heap));
-        for rule in self.rules.iter() {
+        for rule in &self.rules {
             writer.put_rule(rule)?;
         }
         Ok(writer)
@@ -155,7 +145,7 @@ impl Builder {
     /// The records of the clauses, with their code behind that of the rules.
     fn clauses(&self, heap: Global, code: Vec<u8>) -> Result<Writer, AllocError> {
         let mut writer = Writer::behind(heap, code);
-        for clause in self.clauses.iter() {
+        for clause in &self.clauses {
             writer.put_clause(clause)?;
         }
         Ok(writer)

@@ -42,7 +42,7 @@ pub fn code(heap: Global, instructions: &[Instruction]) -> Result<Vec<u8>, Alloc
 }
 
 /// The bytes of so many reads of resource 0, and then of an operator so many times.
-pub fn reads(
+pub fn reads_then(
     heap: Global,
     reads: usize,
     operator: Operator,
@@ -51,10 +51,10 @@ pub fn reads(
     let instructions: Vec<Instruction> = repeat_n(Instruction::Own(0), reads)
         .chain(repeat_n(Instruction::Apply(operator), times))
         .collect(heap)?;
-    code(heap, instructions.as_slice())
+    code(heap, &instructions)
 }
 
 /// An expression of 64 bytes: a read and 62 operators.
 pub fn longest(heap: Global) -> Result<Vec<u8>, AllocError> {
-    reads(heap, 1, Operator::Not, 62)
+    reads_then(heap, 1, Operator::Not, 62)
 }

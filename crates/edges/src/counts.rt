@@ -18,9 +18,10 @@ pub enum Count {
     Clauses,
 }
 
-/// What the format says of a count: the byte of the header that has it, and its bounds.
+/// What the format says of a count: its name, the byte of the header that has it, and its bounds.
 #[derive(Clone, Copy)]
 struct Limits {
+    name: &'static str,
     byte: u32,
     least: usize,
     most: usize,
@@ -34,23 +35,19 @@ impl Count {
         Count::Clauses,
     ];
 
-    pub fn name(self) -> &'static str {
-        match self {
-            Count::Devices => "devices",
-            Count::Resources => "resources",
-            Count::Rules => "rules",
-            Count::Clauses => "clauses",
-        }
-    }
-
     fn limits(self) -> Limits {
-        let (byte, least, most) = match self {
-            Count::Devices => (4, 1, 16),
-            Count::Resources => (5, 1, 32),
-            Count::Rules => (6, 0, 32),
-            Count::Clauses => (7, 0, 32),
+        let (name, byte, least, most) = match self {
+            Count::Devices => ("devices", 4, 1, 16),
+            Count::Resources => ("resources", 5, 1, 32),
+            Count::Rules => ("rules", 6, 0, 32),
+            Count::Clauses => ("clauses", 7, 0, 32),
         };
-        Limits { byte, least, most }
+        Limits {
+            name,
+            byte,
+            least,
+            most,
+        }
     }
 }
 
@@ -97,16 +94,21 @@ fn plain(heap: Global, count: Count, size: usize) -> Result<Builder, AllocError>
 /// Books at the limits of a count and past them.
 pub fn around(rt: &HostRuntime, count: Count) -> io::Result<Tally<'_>> {
     let heap = rt.alloc();
-    let mut tally = Tally::new(rt, count.name());
-    let Limits { byte, least, most } = count.limits();
+    let Limits {
+        name,
+        byte,
+        least,
+        most,
+    } = count.limits();
+    let mut tally = Tally::new(rt, name);
     for size in [0, 1, most, most.saturating_add(1), 255] {
         let expected = if (least..=most).contains(&size) {
             ACCEPTED
         } else {
-            Answer::refused(BookCause::Count, (byte, 0))
+            Answer::refused(BookCause::Count, byte, 0)
         };
         let file = plain(heap, count, size)?.file(heap)?;
-        tally.reading(size, expected, file.as_slice())?;
+        tally.reading(size, expected, &file)?;
     }
     Ok(tally)
 }
@@ -123,9 +125,11 @@ fn action(heap: Global, size: u8) -> Result<Vec<Slot>, AllocError> {
 
 /// The file of a book of one device with five resources, and of one rule, at 61, with so many assignments.
 fn file_of_slots(heap: Global, defaults: u8, tasks: u8) -> Result<Vec<u8>, AllocError> {
-    let mut rule = plain_rule(heap)?;
-    rule.defaults = action(heap, defaults)?;
-    rule.tasks = action(heap, tasks)?;
+    let rule = Rule {
+        defaults: action(heap, defaults)?,
+        tasks: action(heap, tasks)?,
+        ..plain_rule(heap)?
+    };
     let book = Builder {
         levels: vec![in heap; 0; 5]?,
         masks: vec![in heap; 0b11111]?,
@@ -140,8 +144,8 @@ fn file_of_slots(heap: Global, defaults: u8, tasks: u8) -> Result<Vec<u8>, Alloc
 pub fn slots(rt: &HostRuntime) -> io::Result<Tally<'_>> {
     let heap = rt.alloc();
     let mut tally = Tally::new(rt, "slots");
-    let defaults_refused = Answer::refused(BookCause::Field, (68, 0));
-    let tasks_refused = Answer::refused(BookCause::Field, (69, 0));
+    let defaults_refused = Answer::refused(BookCause::Field, 68, 0);
+    let tasks_refused = Answer::refused(BookCause::Field, 69, 0);
     let cases = [
         (0, 0, ACCEPTED),
         (4, 0, ACCEPTED),
@@ -155,7 +159,7 @@ pub fn slots(rt: &HostRuntime) -> io::Result<Tally<'_>> {
     for (defaults, tasks, expected) in cases {
         let file = file_of_slots(heap, defaults, tasks)?;
         let name = format!(in heap; "{defaults} and {tasks}")?;
-        tally.reading(name, expected, file.as_slice())?;
+        tally.reading(name, expected, &file)?;
     }
     Ok(tally)
 }

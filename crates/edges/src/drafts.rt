@@ -25,10 +25,10 @@ pub fn filled(rt: &HostRuntime) -> io::Result<Tally<'_>> {
     let heap = rt.alloc();
     let mut tally = Tally::new(rt, "draft filled");
     let mut draft = Draft::smallest();
-    let first = read(largest(heap)?.as_slice(), &mut draft);
+    let first = read(&largest(heap)?, &mut draft);
     tally.hold("largest", ACCEPTED, Answer(first))?;
     tally.hold("largest, code", 20480, draft.book().code_size)?;
-    let second = read(sample(heap)?.file(heap)?.as_slice(), &mut draft);
+    let second = read(&sample(heap)?.file(heap)?, &mut draft);
     tally.hold("sample", ACCEPTED, Answer(second))?;
     is_sample(&mut tally, draft.book())?;
     Ok(tally)
@@ -47,8 +47,8 @@ fn kept_over(tally: &mut Tally<'_>, held: &[u8]) -> io::Result<()> {
     let heap = tally.heap();
     let file = sample(heap)?.file(heap)?;
     for change in CHANGES.iter() {
-        let changed = change.of(heap, file.as_slice())?;
-        tally.hold(change.name(), true, is_kept(held, changed.as_slice()))?;
+        let changed = change.of(heap, &file)?;
+        tally.hold(change.name(), true, is_kept(held, &changed))?;
     }
     Ok(())
 }
@@ -57,7 +57,7 @@ fn kept_over(tally: &mut Tally<'_>, held: &[u8]) -> io::Result<()> {
 pub fn kept(rt: &HostRuntime) -> io::Result<Tally<'_>> {
     let heap = rt.alloc();
     let mut tally = Tally::new(rt, "draft kept");
-    kept_over(&mut tally, largest(heap)?.as_slice())?;
-    kept_over(&mut tally, sample(heap)?.file(heap)?.as_slice())?;
+    kept_over(&mut tally, &largest(heap)?)?;
+    kept_over(&mut tally, &sample(heap)?.file(heap)?)?;
     Ok(tally)
 }

@@ -10,9 +10,13 @@ use std::io;
 
 /// The file of one device without a cell, and one resource.
 fn smallest(heap: Global) -> Result<Vec<u8>, AllocError> {
-    let mut book = Builder::new(heap);
-    book.levels.push(0)?;
-    book.masks.push(0)?;
+    let book = Builder {
+        levels: vec![in heap; 0]?,
+        masks: vec![in heap; 0]?,
+        starts: Vec::new(heap),
+        rules: Vec::new(heap),
+        clauses: Vec::new(heap),
+    };
     book.file(heap)
 }
 
@@ -62,17 +66,27 @@ pub fn extremes(rt: &HostRuntime) -> io::Result<Tally<'_>> {
     let mut tally = Tally::new(rt, "extremes");
     let file = smallest(heap)?;
     tally.hold("smallest, bytes", 37, file.len())?;
-    tally.reading("smallest", ACCEPTED, file.as_slice())?;
+    tally.reading("smallest", ACCEPTED, &file)?;
     let mut file = largest(heap)?;
     tally.hold("largest, bytes", 24512, file.len())?;
-    tally.reading("largest", ACCEPTED, file.as_slice())?;
-    let refused = Answer::refused(BookCause::Frame, (28, 0));
+    tally.reading("largest", ACCEPTED, &file)?;
     file.push(0)?;
-    tally.reading("a byte more", refused, file.as_slice())?;
+    tally.reading(
+        "a byte more",
+        Answer::refused(BookCause::Frame, 28, 0),
+        &file,
+    )?;
     file.truncate(24511);
-    tally.reading("a byte less", refused, file.as_slice())?;
+    tally.reading(
+        "a byte less",
+        Answer::refused(BookCause::Frame, 28, 0),
+        &file,
+    )?;
     file.push(15)?;
-    let refused = Answer::refused(BookCause::Expression, (24448, 63));
-    tally.reading("the last byte changed", refused, file.as_slice())?;
+    tally.reading(
+        "the last byte changed",
+        Answer::refused(BookCause::Expression, 24448, 63),
+        &file,
+    )?;
     Ok(tally)
 }

@@ -1,7 +1,7 @@
 //! How deep and how long an expression may be, in each place where one can stand.
 use super::answer::{ACCEPTED, Answer};
 use super::builder::{Builder, Clause, Rule, Slot};
-use super::code::{code, reads};
+use super::code::{code, reads_then};
 use super::tally::Tally;
 use book::Kind;
 use fault::BookCause;
@@ -18,9 +18,9 @@ enum Part {
     Clause,
 }
 
-const PARTS: [Part; 4] = [Part::Condition, Part::Default, Part::Task, Part::Clause];
-
 impl Part {
+    const ALL: [Part; 4] = [Part::Condition, Part::Default, Part::Task, Part::Clause];
+
     fn name(self) -> &'static str {
         match self {
             Part::Condition => "condition",
@@ -42,7 +42,7 @@ impl Part {
 
     /// The answer to a file whose expression in this part is wrong at its byte `at`.
     fn refused(self, at: u32) -> Answer {
-        Answer::refused(BookCause::Expression, (self.place(), at))
+        Answer::refused(BookCause::Expression, self.place(), at)
     }
 }
 
@@ -51,11 +51,7 @@ impl Part {
 fn file_with(heap: Global, part: Part, expression: &[u8]) -> Result<Vec<u8>, AllocError> {
     let read = code(heap, &[Instruction::Own(0)])?;
     let code_of = |other: Part| {
-        let code = if other == part {
-            expression
-        } else {
-            read.as_slice()
-        };
+        let code = if other == part { expression } else { &read };
         Vec::from_slice(heap, code)
     };
     let slot_of = |other: Part| -> Result<Slot, AllocError> {
@@ -83,23 +79,19 @@ fn file_with(heap: Global, part: Part, expression: &[u8]) -> Result<Vec<u8>, All
 
 /// Reads until the stack is so deep, and then sums.
 fn deep(heap: Global, depth: usize) -> Result<Vec<u8>, AllocError> {
-    reads(heap, depth, Operator::Add, depth.saturating_sub(1))
+    reads_then(heap, depth, Operator::Add, depth.saturating_sub(1))
 }
 
 /// A depth of 8 is accepted, and one of 9 is refused at the ninth read.
 pub fn depth(rt: &HostRuntime) -> io::Result<Tally<'_>> {
     let heap = rt.alloc();
     let mut tally = Tally::new(rt, "depth");
-    for part in PARTS {
+    for part in Part::ALL {
         let name = part.name();
-        let most = file_with(heap, part, deep(heap, 8)?.as_slice())?;
-        tally.reading(format!(in heap; "{name}, 8")?, ACCEPTED, most.as_slice())?;
-        let over = file_with(heap, part, deep(heap, 9)?.as_slice())?;
-        tally.reading(
-            format!(in heap; "{name}, 9")?,
-            part.refused(16),
-            over.as_slice(),
-        )?;
+        let most = file_with(heap, part, &deep(heap, 8)?)?;
+        tally.reading(format!(in heap; "{name}, 8")?, ACCEPTED, &most)?;
+        let over = file_with(heap, part, &deep(heap, 9)?)?;
+        tally.reading(format!(in heap; "{name}, 9")?, part.refused(16), &over)?;
     }
     Ok(tally)
 }
@@ -107,8 +99,8 @@ pub fn depth(rt: &HostRuntime) -> io::Result<Tally<'_>> {
 /// An expression of so many bytes: a read, if there is room for one, and operators of one operand.
 fn long(heap: Global, size: usize) -> Result<Vec<u8>, AllocError> {
     match size.checked_sub(2) {
-        Some(left) => reads(heap, 1, Operator::Not, left),
-        None => reads(heap, 0, Operator::Not, size),
+        Some(left) => reads_then(heap, 1, Operator::Not, left),
+        None => reads_then(heap, 0, Operator::Not, size),
     }
 }
 
@@ -124,20 +116,16 @@ fn lengths_of(tally: &mut Tally<'_>, part: Part) -> io::Result<()> {
         (65, part.refused(0)),
     ];
     for (size, expected) in cases {
-        let file = file_with(heap, part, long(heap, size)?.as_slice())?;
-        tally.reading(
-            format!(in heap; "{name}, {size}")?,
-            expected,
-            file.as_slice(),
-        )?;
+        let file = file_with(heap, part, &long(heap, size)?)?;
+        tally.reading(format!(in heap; "{name}, {size}")?, expected, &file)?;
     }
     Ok(())
 }
 
 pub fn length(rt: &HostRuntime) -> io::Result<Tally<'_>> {
     let mut tally = Tally::new(rt, "length");
-    PARTS
-        .into_iter()
-        .try_for_each(|part| lengths_of(&mut tally, part))?;
+    for part in Part::ALL {
+        lengths_of(&mut tally, part)?;
+    }
     Ok(tally)
 }

@@ -53,16 +53,12 @@ fn refused_files(all: &mut Tally<'_>) -> io::Result<()> {
     all.join(drafts::kept(rt)?)
 }
 
-fn run(rt: &HostRuntime) -> anyhow::Result<()> {
-    let mut all = Tally::new(rt, "all");
+fn main(rt: HostRuntime) -> anyhow::Result<()> {
+    let mut all = Tally::new(&rt, "all");
     known_files(&mut all)?;
     limits(&mut all)?;
     refused_files(&mut all)?;
     println!(rt; "{all}")?;
     ensure!(all.is_right(), "a case went wrong");
     Ok(())
-}
-
-fn main(rt: HostRuntime) -> anyhow::Result<()> {
-    run(&rt)
 }

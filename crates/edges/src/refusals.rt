@@ -10,10 +10,10 @@ pub fn refusals(rt: &HostRuntime) -> io::Result<Tally<'_>> {
     let heap = rt.alloc();
     let mut tally = Tally::new(rt, "refusals");
     let file = sample(heap)?.file(heap)?;
-    tally.reading("no change", ACCEPTED, file.as_slice())?;
+    tally.reading("no change", ACCEPTED, &file)?;
     for change in CHANGES.iter() {
-        let changed = change.of(heap, file.as_slice())?;
-        tally.reading(change.name(), change.answer(), changed.as_slice())?;
+        let changed = change.of(heap, &file)?;
+        tally.reading(change.name(), change.answer(), &changed)?;
     }
     Ok(tally)
 }
@@ -28,9 +28,9 @@ fn before_later(
     let heap = tally.heap();
     let once = first.of(heap, file)?;
     for second in later.iter().filter(|second| second.at() != first.at()) {
-        let twice = second.of(heap, once.as_slice())?;
+        let twice = second.of(heap, &once)?;
         let name = format!(in heap; "{} and {}", first.name(), second.name())?;
-        tally.reading(name, first.answer(), twice.as_slice())?;
+        tally.reading(name, first.answer(), &twice)?;
     }
     Ok(())
 }
@@ -41,7 +41,7 @@ pub fn first_of_two(rt: &HostRuntime) -> io::Result<Tally<'_>> {
     let mut tally = Tally::new(rt, "first of two");
     let file = sample(heap)?.file(heap)?;
     for (place, first) in CHANGES.iter().enumerate() {
-        before_later(&mut tally, file.as_slice(), first, &CHANGES[place..])?;
+        before_later(&mut tally, &file, first, &CHANGES[place..])?;
     }
     Ok(tally)
 }

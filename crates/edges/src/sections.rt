@@ -26,12 +26,12 @@ pub fn put_two(out: &mut Vec<u8>, number: usize) -> Result<(), AllocError> {
 impl Sections {
     fn bodies(&self) -> [&[u8]; 6] {
         [
-            self.levels.as_slice(),
-            self.cells.as_slice(),
-            self.starts.as_slice(),
-            self.rules.as_slice(),
-            self.clauses.as_slice(),
-            self.code.as_slice(),
+            &self.levels,
+            &self.cells,
+            &self.starts,
+            &self.rules,
+            &self.clauses,
+            &self.code,
         ]
     }
 

@@ -6,16 +6,16 @@ use std::{fs, io};
 /// The file of a name in a folder.
 pub fn file(rt: &HostRuntime, folder: &str, name: &str) -> io::Result<Vec<u8>> {
     let path = format!(in rt.alloc(); "{folder}/{name}.abu")?;
-    fs::read(rt, path.as_str())
+    fs::read(rt, &path)
 }
 
 /// Every book of the list is accepted.
 pub fn accepted(rt: &HostRuntime) -> io::Result<Tally<'_>> {
     let mut tally = Tally::new(rt, "vectors accepted");
     let list = fs::read_to_string(rt, "books.txt")?;
-    for name in list.as_str().lines() {
+    for name in list.lines() {
         let book = file(rt, "books", name)?;
-        tally.reading(name, ACCEPTED, book.as_slice())?;
+        tally.reading(name, ACCEPTED, &book)?;
     }
     Ok(tally)
 }
@@ -24,10 +24,10 @@ pub fn accepted(rt: &HostRuntime) -> io::Result<Tally<'_>> {
 pub fn damaged(rt: &HostRuntime) -> io::Result<Tally<'_>> {
     let mut tally = Tally::new(rt, "vectors damaged");
     let list = fs::read_to_string(rt, "damage.txt")?;
-    for line in list.as_str().lines() {
+    for line in list.lines() {
         let (name, expected) = line.split_once(' ').unwrap_or((line, ""));
         let book = file(rt, "damage", name)?;
-        let came = Answer::to(book.as_slice()).to_string(rt.alloc())?;
+        let came = Answer::to(&book).to_string(rt.alloc())?;
         tally.hold(name, expected, came.as_str())?;
     }
     Ok(tally)

@@ -15,18 +15,18 @@ const ROOM: usize = 65_536;
 
 /// Which order a book is judged under.
 #[derive(Clone, Copy)]
-enum Under {
+enum OrderKind {
     Ladder,
     Sets,
 }
 
-impl FromStr for Under {
+impl FromStr for OrderKind {
     type Err = ();
 
-    fn from_str(word: &str) -> Result<Under, ()> {
+    fn from_str(word: &str) -> Result<OrderKind, ()> {
         match word {
-            "ladder" => Ok(Under::Ladder),
-            "sets" => Ok(Under::Sets),
+            "ladder" => Ok(OrderKind::Ladder),
+            "sets" => Ok(OrderKind::Sets),
             _ => Err(()),
         }
     }
@@ -55,7 +55,7 @@ impl FromStr for Asked {
 #[derive(Clone, Copy)]
 struct Case<'a> {
     book: &'a str,
-    order: Under,
+    order: OrderKind,
     size: u32,
     asked: Asked,
     expected: &'a str,
@@ -80,17 +80,17 @@ impl<'a> Case<'a> {
     /// What the case's book is told.
     fn said(&self, heap: Global, draft: &Draft) -> Result<String, AllocError> {
         match self.order {
-            Under::Ladder => said(heap, draft, Ladder::new(self.size), self.asked),
-            Under::Sets => said(heap, draft, SetOrder::new(self.size), self.asked),
+            OrderKind::Ladder => said(heap, draft, Ladder::new(self.size), self.asked),
+            OrderKind::Sets => said(heap, draft, SetOrder::new(self.size), self.asked),
         }
     }
 }
 
 /// The bytes of a list in hexadecimal, or `none`.
 #[derive(Clone, Copy)]
-struct List<'a>(&'a [u8]);
+struct Hexadecimal<'a>(&'a [u8]);
 
-impl fmt::Display for List<'_> {
+impl fmt::Display for Hexadecimal<'_> {
     fn fmt<W: fmt::Write>(&self, f: &mut fmt::Formatter<W>) -> fmt::Result {
         if self.0.is_empty() {
             return write!(f, "none");
@@ -105,8 +105,8 @@ impl fmt::Display for List<'_> {
 /// What the list says: its bytes, or the text of the fault.
 fn listed<O: Order>(heap: Global, draft: &Draft, order: &O) -> Result<String, AllocError> {
     let mut room = vec![in heap; 0u8; ROOM]?;
-    match flows(draft, order, room.as_mut_slice()) {
-        Ok(length) => List(room.as_slice().get(..length).unwrap_or(&[])).to_string(heap),
+    match flows(draft, order, &mut room) {
+        Ok(length) => Hexadecimal(room.get(..length).unwrap_or(&[])).to_string(heap),
         Err(fault) => fault.to_string(heap),
     }
 }
@@ -131,7 +131,7 @@ fn said<O: Order + Drop>(
 /// The draft of a book's file, or the smallest one where the file is refused.
 fn draft_of(rt: &HostRuntime, name: &str) -> io::Result<Draft> {
     let mut draft = Draft::smallest();
-    let _ = read(file(rt, "books", name)?.as_slice(), &mut draft);
+    let _ = read(&file(rt, "books", name)?, &mut draft);
     Ok(draft)
 }
 
@@ -139,7 +139,7 @@ fn draft_of(rt: &HostRuntime, name: &str) -> io::Result<Draft> {
 pub fn verdicts(rt: &HostRuntime) -> io::Result<Tally<'_>> {
     let mut tally = Tally::new(rt, "verdicts");
     let list = fs::read_to_string(rt, "verdicts.txt")?;
-    for line in list.as_str().lines() {
+    for line in list.lines() {
         let Some(case) = Case::of(line) else {
             continue;
         };
@@ -156,8 +156,8 @@ fn within(heap: Global, draft: &Draft, length: usize) -> Result<String, AllocErr
         return String::from_str(heap, "no ladder");
     };
     let mut room = vec![in heap; 0xaau8; length]?;
-    let answer = flows(draft, &ladder, room.as_mut_slice());
-    let held = List(room.as_slice());
+    let answer = flows(draft, &ladder, &mut room);
+    let held = Hexadecimal(&room);
     match answer {
         Ok(length) => format!(in heap; "{length} {held}"),
         Err(fault) => format!(in heap; "{fault} {held}"),
