@@ -4,16 +4,18 @@ use fault::BookCause;
 use fault::BookCause::{Cell, Count, Expression, Field, Frame};
 use std::alloc::{AllocError, Global};
 
-/// A change: its name, the byte of the file that it is made at, what it puts there, and the cause of the refusal with the two
-/// numbers of its place.
+/// A change: its name, the byte of the file that it is made at, what it puts there, and the cause and the place of the
+/// refusal.
 #[derive(Clone, Copy)]
 pub struct Change(&'static str, usize, u8, BookCause, u32, u32);
 
 impl Change {
+    /// What is wrong with the changed file.
     pub fn name(&self) -> &'static str {
         self.0
     }
 
+    /// The byte of the file that the change is made at.
     pub fn at(&self) -> usize {
         self.1
     }

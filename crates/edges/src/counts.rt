@@ -8,6 +8,7 @@ use fault::BookCause;
 use meaning::Instruction;
 use std::alloc::{AllocError, Global};
 use std::io;
+use std::ops::RangeInclusive;
 
 /// A count in the header of a file.
 #[derive(Clone, Copy, PartialEq, Eq)]
@@ -18,35 +19,23 @@ pub enum Count {
     Clauses,
 }
 
-/// What the format says of a count: its name, the byte of the header that has it, and its bounds.
-#[derive(Clone, Copy)]
-struct Limits {
-    name: &'static str,
-    byte: u32,
-    least: usize,
-    most: usize,
-}
-
 impl Count {
-    pub const ALL: [Count; 4] = [
-        Count::Devices,
-        Count::Resources,
-        Count::Rules,
-        Count::Clauses,
-    ];
+    /// The byte of the header that has the count.
+    fn byte(self) -> u32 {
+        match self {
+            Count::Devices => 4,
+            Count::Resources => 5,
+            Count::Rules => 6,
+            Count::Clauses => 7,
+        }
+    }
 
-    fn limits(self) -> Limits {
-        let (name, byte, least, most) = match self {
-            Count::Devices => ("devices", 4, 1, 16),
-            Count::Resources => ("resources", 5, 1, 32),
-            Count::Rules => ("rules", 6, 0, 32),
-            Count::Clauses => ("clauses", 7, 0, 32),
-        };
-        Limits {
-            name,
-            byte,
-            least,
-            most,
+    /// The sizes that are accepted.
+    fn bounds(self) -> RangeInclusive<usize> {
+        match self {
+            Count::Devices => 1..=16,
+            Count::Resources => 1..=32,
+            Count::Rules | Count::Clauses => 0..=32,
         }
     }
 }
@@ -92,25 +81,20 @@ fn plain(heap: Global, count: Count, size: usize) -> Result<Builder, AllocError>
 }
 
 /// Books at the limits of a count and past them.
-pub fn around(rt: &HostRuntime, count: Count) -> io::Result<Tally<'_>> {
-    let heap = rt.alloc();
-    let Limits {
-        name,
-        byte,
-        least,
-        most,
-    } = count.limits();
-    let mut tally = Tally::new(rt, name);
+pub fn around(tally: &mut Tally<'_>, count: Count) -> io::Result<()> {
+    let heap = tally.heap();
+    let bounds = count.bounds();
+    let most = *bounds.end();
     for size in [0, 1, most, most.saturating_add(1), 255] {
-        let expected = if (least..=most).contains(&size) {
+        let expected = if bounds.contains(&size) {
             ACCEPTED
         } else {
-            Answer::refused(BookCause::Count, byte, 0)
+            Answer::refused(BookCause::Count, count.byte(), 0)
         };
         let file = plain(heap, count, size)?.file(heap)?;
         tally.reading(size, expected, &file)?;
     }
-    Ok(tally)
+    Ok(())
 }
 
 /// Assignments to the first resources, each of a read.
@@ -141,9 +125,8 @@ fn file_of_slots(heap: Global, defaults: u8, tasks: u8) -> Result<Vec<u8>, Alloc
 }
 
 /// Four assignments of each action are accepted, and five are refused at their count.
-pub fn slots(rt: &HostRuntime) -> io::Result<Tally<'_>> {
-    let heap = rt.alloc();
-    let mut tally = Tally::new(rt, "slots");
+pub fn slots(tally: &mut Tally<'_>) -> io::Result<()> {
+    let heap = tally.heap();
     let defaults_refused = Answer::refused(BookCause::Field, 68, 0);
     let tasks_refused = Answer::refused(BookCause::Field, 69, 0);
     let cases = [
@@ -161,5 +144,5 @@ pub fn slots(rt: &HostRuntime) -> io::Result<Tally<'_>> {
         let name = format!(in heap; "{defaults} and {tasks}")?;
         tally.reading(name, expected, &file)?;
     }
-    Ok(tally)
+    Ok(())
 }

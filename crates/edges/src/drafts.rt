@@ -21,17 +21,15 @@ fn is_sample(tally: &mut Tally<'_>, book: &Book) -> io::Result<()> {
 }
 
 /// A draft that held the largest book and reads the sample holds the sample.
-pub fn filled(rt: &HostRuntime) -> io::Result<Tally<'_>> {
-    let heap = rt.alloc();
-    let mut tally = Tally::new(rt, "draft filled");
+pub fn filled(tally: &mut Tally<'_>) -> io::Result<()> {
+    let heap = tally.heap();
     let mut draft = Draft::smallest();
     let first = read(&largest(heap)?, &mut draft);
     tally.hold("largest", ACCEPTED, Answer(first))?;
     tally.hold("largest, code", 20480, draft.book().code_size)?;
     let second = read(&sample(heap)?.file(heap)?, &mut draft);
     tally.hold("sample", ACCEPTED, Answer(second))?;
-    is_sample(&mut tally, draft.book())?;
-    Ok(tally)
+    is_sample(tally, draft.book())
 }
 
 /// A draft that holds a book refuses another file and still holds the book.
@@ -54,10 +52,8 @@ fn kept_over(tally: &mut Tally<'_>, held: &[u8]) -> io::Result<()> {
 }
 
 /// Refused files leave the largest book and the sample as they are.
-pub fn kept(rt: &HostRuntime) -> io::Result<Tally<'_>> {
-    let heap = rt.alloc();
-    let mut tally = Tally::new(rt, "draft kept");
-    kept_over(&mut tally, &largest(heap)?)?;
-    kept_over(&mut tally, &sample(heap)?.file(heap)?)?;
-    Ok(tally)
+pub fn kept(tally: &mut Tally<'_>) -> io::Result<()> {
+    let heap = tally.heap();
+    kept_over(tally, &largest(heap)?)?;
+    kept_over(tally, &sample(heap)?.file(heap)?)
 }

@@ -61,32 +61,20 @@ pub fn largest(heap: Global) -> Result<Vec<u8>, AllocError> {
 }
 
 /// The two files have their sizes and are accepted; a byte more, less or changed in the largest is seen.
-pub fn extremes(rt: &HostRuntime) -> io::Result<Tally<'_>> {
-    let heap = rt.alloc();
-    let mut tally = Tally::new(rt, "extremes");
+pub fn extremes(tally: &mut Tally<'_>) -> io::Result<()> {
+    let heap = tally.heap();
     let file = smallest(heap)?;
     tally.hold("smallest, bytes", 37, file.len())?;
     tally.reading("smallest", ACCEPTED, &file)?;
     let mut file = largest(heap)?;
     tally.hold("largest, bytes", 24512, file.len())?;
     tally.reading("largest", ACCEPTED, &file)?;
+    let wrong_pair = Answer::refused(BookCause::Frame, 28, 0);
     file.push(0)?;
-    tally.reading(
-        "a byte more",
-        Answer::refused(BookCause::Frame, 28, 0),
-        &file,
-    )?;
+    tally.reading("a byte more", wrong_pair, &file)?;
     file.truncate(24511);
-    tally.reading(
-        "a byte less",
-        Answer::refused(BookCause::Frame, 28, 0),
-        &file,
-    )?;
+    tally.reading("a byte less", wrong_pair, &file)?;
+    let wrong_code = Answer::refused(BookCause::Expression, 24448, 63);
     file.push(15)?;
-    tally.reading(
-        "the last byte changed",
-        Answer::refused(BookCause::Expression, 24448, 63),
-        &file,
-    )?;
-    Ok(tally)
+    tally.reading("the last byte changed", wrong_code, &file)
 }

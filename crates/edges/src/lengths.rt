@@ -83,9 +83,8 @@ fn deep(heap: Global, depth: usize) -> Result<Vec<u8>, AllocError> {
 }
 
 /// A depth of 8 is accepted, and one of 9 is refused at the ninth read.
-pub fn depth(rt: &HostRuntime) -> io::Result<Tally<'_>> {
-    let heap = rt.alloc();
-    let mut tally = Tally::new(rt, "depth");
+pub fn depth(tally: &mut Tally<'_>) -> io::Result<()> {
+    let heap = tally.heap();
     for part in Part::ALL {
         let name = part.name();
         let most = file_with(heap, part, &deep(heap, 8)?)?;
@@ -93,7 +92,7 @@ pub fn depth(rt: &HostRuntime) -> io::Result<Tally<'_>> {
         let over = file_with(heap, part, &deep(heap, 9)?)?;
         tally.reading(format!(in heap; "{name}, 9")?, part.refused(16), &over)?;
     }
-    Ok(tally)
+    Ok(())
 }
 
 /// An expression of so many bytes: a read, if there is room for one, and operators of one operand.
@@ -122,10 +121,10 @@ fn lengths_of(tally: &mut Tally<'_>, part: Part) -> io::Result<()> {
     Ok(())
 }
 
-pub fn length(rt: &HostRuntime) -> io::Result<Tally<'_>> {
-    let mut tally = Tally::new(rt, "length");
+/// Some lengths in each part.
+pub fn length(tally: &mut Tally<'_>) -> io::Result<()> {
     for part in Part::ALL {
-        lengths_of(&mut tally, part)?;
+        lengths_of(tally, part)?;
     }
-    Ok(tally)
+    Ok(())
 }

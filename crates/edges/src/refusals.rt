@@ -6,16 +6,15 @@ use super::tally::Tally;
 use std::io;
 
 /// Each change is refused as it says; without one the sample is accepted.
-pub fn refusals(rt: &HostRuntime) -> io::Result<Tally<'_>> {
-    let heap = rt.alloc();
-    let mut tally = Tally::new(rt, "refusals");
+pub fn refusals(tally: &mut Tally<'_>) -> io::Result<()> {
+    let heap = tally.heap();
     let file = sample(heap)?.file(heap)?;
     tally.reading("no change", ACCEPTED, &file)?;
     for change in CHANGES.iter() {
         let changed = change.of(heap, &file)?;
         tally.reading(change.name(), change.answer(), &changed)?;
     }
-    Ok(tally)
+    Ok(())
 }
 
 /// A change together with each later one, at another byte, is refused as it is alone.
@@ -36,12 +35,11 @@ fn before_later(
 }
 
 /// Of two changes the one that reading tests for first gives the answer.
-pub fn first_of_two(rt: &HostRuntime) -> io::Result<Tally<'_>> {
-    let heap = rt.alloc();
-    let mut tally = Tally::new(rt, "first of two");
+pub fn first_of_two(tally: &mut Tally<'_>) -> io::Result<()> {
+    let heap = tally.heap();
     let file = sample(heap)?.file(heap)?;
     for (place, first) in CHANGES.iter().enumerate() {
-        before_later(&mut tally, &file, first, &CHANGES[place..])?;
+        before_later(tally, &file, first, &CHANGES[place..])?;
     }
-    Ok(tally)
+    Ok(())
 }

@@ -7,13 +7,14 @@ use std::{fmt, io};
 #[derive(Drop)]
 pub struct Tally<'a> {
     pub rt: &'a HostRuntime,
-    name: &'static str,
+    name: &'a str,
     cases: u32,
     wrong: u32,
 }
 
 impl<'a> Tally<'a> {
-    pub fn new(rt: &'a HostRuntime, name: &'static str) -> Tally<'a> {
+    /// The tally of a group before its cases.
+    pub fn new(rt: &'a HostRuntime, name: &'a str) -> Tally<'a> {
         Tally {
             rt,
             name,
@@ -22,6 +23,7 @@ impl<'a> Tally<'a> {
         }
     }
 
+    /// Where cases get their memory.
     pub fn heap(&self) -> Global {
         self.rt.alloc()
     }
@@ -52,13 +54,22 @@ impl<'a> Tally<'a> {
         self.hold(case, expected, Answer::to(file))
     }
 
-    /// Prints the line of a group, and adds its cases to these.
-    pub fn join(&mut self, group: Tally<'_>) -> io::Result<()> {
+    /// Tries the cases of a group, prints its line, and adds them to these.
+    pub fn group<F: FnOnce(&mut Tally<'a>) -> io::Result<()>>(
+        &mut self,
+        name: &'a str,
+        cases: F,
+    ) -> io::Result<()>
+        requires { F.IsAlwaysCallable cases }
+    {
+        let mut group = Tally::new(self.rt, name);
+        cases(&mut group)?;
         self.cases = self.cases.saturating_add(group.cases);
         self.wrong = self.wrong.saturating_add(group.wrong);
         println!(self.rt; "{group}")
     }
 
+    /// Whether no case went wrong.
     pub fn is_right(&self) -> bool {
         self.wrong == 0
     }

@@ -18,13 +18,12 @@ fn expected(sections: &Sections, size: usize) -> Answer {
 }
 
 /// The sample, broken off at each of its bytes.
-pub fn truncations(rt: &HostRuntime) -> io::Result<Tally<'_>> {
-    let heap = rt.alloc();
-    let mut tally = Tally::new(rt, "truncations");
+pub fn truncations(tally: &mut Tally<'_>) -> io::Result<()> {
+    let heap = tally.heap();
     let sections = sample(heap)?.sections(heap)?;
     let file = sections.file(heap)?;
     for size in (0..file.len()).rev() {
         tally.reading(size, expected(&sections, size), &file[..size])?;
     }
-    Ok(tally)
+    Ok(())
 }

@@ -10,25 +10,25 @@ pub fn file(rt: &HostRuntime, folder: &str, name: &str) -> io::Result<Vec<u8>> {
 }
 
 /// Every book of the list is accepted.
-pub fn accepted(rt: &HostRuntime) -> io::Result<Tally<'_>> {
-    let mut tally = Tally::new(rt, "vectors accepted");
+pub fn accepted(tally: &mut Tally<'_>) -> io::Result<()> {
+    let rt = tally.rt;
     let list = fs::read_to_string(rt, "books.txt")?;
     for name in list.lines() {
         let book = file(rt, "books", name)?;
         tally.reading(name, ACCEPTED, &book)?;
     }
-    Ok(tally)
+    Ok(())
 }
 
 /// Every damaged file of the list has the answer that stands after its name.
-pub fn damaged(rt: &HostRuntime) -> io::Result<Tally<'_>> {
-    let mut tally = Tally::new(rt, "vectors damaged");
+pub fn damaged(tally: &mut Tally<'_>) -> io::Result<()> {
+    let rt = tally.rt;
     let list = fs::read_to_string(rt, "damage.txt")?;
     for line in list.lines() {
         let (name, expected) = line.split_once(' ').unwrap_or((line, ""));
         let book = file(rt, "damage", name)?;
-        let came = Answer::to(&book).to_string(rt.alloc())?;
+        let came = Answer::to(&book).to_string(tally.heap())?;
         tally.hold(name, expected, came.as_str())?;
     }
-    Ok(tally)
+    Ok(())
 }

@@ -136,18 +136,18 @@ fn draft_of(rt: &HostRuntime, name: &str) -> io::Result<Draft> {
 }
 
 /// Each book of the list is judged, and its flows are listed, as the list says.
-pub fn verdicts(rt: &HostRuntime) -> io::Result<Tally<'_>> {
-    let mut tally = Tally::new(rt, "verdicts");
+pub fn verdicts(tally: &mut Tally<'_>) -> io::Result<()> {
+    let rt = tally.rt;
     let list = fs::read_to_string(rt, "verdicts.txt")?;
     for line in list.lines() {
         let Some(case) = Case::of(line) else {
             continue;
         };
         let draft = draft_of(rt, case.book)?;
-        let came = case.said(rt.alloc(), &draft)?;
+        let came = case.said(tally.heap(), &draft)?;
         tally.hold(line, case.expected, came.as_str())?;
     }
-    Ok(tally)
+    Ok(())
 }
 
 /// A list in a buffer of a length, filled with `a` bytes before: what is answered, and what the buffer then holds.
@@ -165,17 +165,16 @@ fn within(heap: Global, draft: &Draft, length: usize) -> Result<String, AllocErr
 }
 
 /// A list of one flow in buffers of 4, 5 and 7 bytes: too short, exact, and with bytes beyond that stay.
-pub fn buffers(rt: &HostRuntime) -> io::Result<Tally<'_>> {
-    let mut tally = Tally::new(rt, "buffers");
-    let draft = draft_of(rt, "kind-3")?;
+pub fn buffers(tally: &mut Tally<'_>) -> io::Result<()> {
+    let draft = draft_of(tally.rt, "kind-3")?;
     let cases = [
         ("too short", 4, "no 9 5 4 aaaaaaaa"),
         ("exact", 5, "5 0000030001"),
         ("longer", 7, "5 0000030001aaaa"),
     ];
     for (name, length, expected) in cases {
-        let came = within(rt.alloc(), &draft, length)?;
+        let came = within(tally.heap(), &draft, length)?;
         tally.hold(name, expected, came.as_str())?;
     }
-    Ok(tally)
+    Ok(())
 }
