@@ -1,35 +1,37 @@
 //! What reading a file answers.
 use book::{Draft, read};
-use fault::Fault;
+use fault::{BookCause, Fault, Layer};
 use std::fmt;
 
-/// A file is accepted, or refused with a number and the two numbers of a place.
+/// A file is accepted, or refused with a fault.
 #[derive(Clone, Copy, PartialEq, Eq)]
-pub enum Answer {
-    Accepted,
-    Refused(u32, u32, u32),
+pub struct Answer(pub Result<(), Fault>);
+
+/// The answer to a file that is accepted.
+pub const ACCEPTED: Answer = Answer(Ok(()));
+
+impl Answer {
+    /// The answer to a file that is refused, with the two numbers of the place.
+    pub fn refused(cause: BookCause, a: u32, b: u32) -> Answer {
+        Answer(Err(Fault {
+            layer: Layer::Book(cause),
+            place: (a, b),
+        }))
+    }
+
+    /// The answer to reading a file into a new draft.
+    pub fn to(file: &[u8]) -> Answer {
+        let mut draft = Draft::smallest();
+        Answer(read(file, &mut draft))
+    }
 }
 
-/// `ok`, or `no NUMBER A B`.
+/// `ok`, or the text of the fault.
 impl fmt::Display for Answer {
     fn fmt<W: fmt::Write>(&self, f: &mut fmt::Formatter<W>) -> fmt::Result {
-        match *self {
-            Answer::Accepted => write!(f, "ok"),
-            Answer::Refused(number, a, b) => write!(f, "no {number} {a} {b}"),
+        match self.0 {
+            Ok(()) => write!(f, "ok"),
+            Err(fault) => write!(f, "{fault}"),
         }
     }
-}
-
-/// The answer to a reading.
-pub fn answer_of(reading: Result<(), Fault>) -> Answer {
-    match reading {
-        Ok(()) => Answer::Accepted,
-        Err(fault) => Answer::Refused(fault.number(), fault.place.0, fault.place.1),
-    }
-}
-
-/// The answer to reading a file into a new draft.
-pub fn answer_to(bytes: &[u8]) -> Answer {
-    let mut draft = Draft::smallest();
-    answer_of(read(bytes, &mut draft))
 }

@@ -1,22 +1,17 @@
 //! Books as values, from which files are made.
 use super::sections::{Sections, put_two};
+use book::{Kind, SLOTS};
 use std::alloc::{AllocError, Global};
+use std::iter::repeat_n;
 
-/// The slots that a rule has for each of its two actions.
-const SLOTS: usize = 4;
+/// The bytes of a slot: its target, and the pair of its value.
+const SLOT: usize = 5;
 
 /// One assignment: the target resource, and the code of the value.
 #[derive(Drop)]
 pub struct Slot {
     pub target: u8,
     pub value: Vec<u8>,
-}
-
-/// For whom the task of a rule is, with the byte that says so.
-#[derive(Clone, Copy)]
-pub enum Kind {
-    Local = 0,
-    Remote = 1,
 }
 
 /// A rule: carriers and events are masks of devices and of resources.
@@ -52,108 +47,120 @@ fn low_byte(count: usize) -> u8 {
     (count & 0xff) as u8
 }
 
-/// Puts the pair of an expression into a record, and the expression behind the code so far.
-fn put_expression(
-    record: &mut Vec<u8>,
-    code: &mut Vec<u8>,
-    expression: &[u8],
-) -> Result<(), AllocError> {
-    put_two(record, code.len())?;
-    put_two(record, expression.len())?;
-    code.extend_from_slice(expression)
+/// The byte that says for whom a task is.
+fn kind_byte(kind: Kind) -> u8 {
+    match kind {
+        Kind::Local => 0,
+        Kind::Remote => 1,
+    }
 }
 
-/// Puts four slots, zeros where an action has none; a fifth assignment of an action only counts.
-fn put_action(record: &mut Vec<u8>, code: &mut Vec<u8>, action: &[Slot]) -> Result<(), AllocError> {
-    for k in 0..SLOTS {
-        match action.get(k) {
-            Some(slot) => {
-                record.push(slot.target)?;
-                put_expression(record, code, slot.value.as_slice())?;
-            }
-            None => record.extend_from_slice(&[0; 5])?,
+/// The records of a section, and the code of the book so far.
+#[derive(Drop)]
+struct Writer {
+    records: Vec<u8>,
+    code: Vec<u8>,
+}
+
+impl Writer {
+    /// The writer of a section whose expressions go behind some code.
+    fn behind(heap: Global, code: Vec<u8>) -> Writer {
+        Writer {
+            records: Vec::new(heap),
+            code,
         }
     }
-    Ok(())
-}
 
-impl Rule {
-    fn put(&self, record: &mut Vec<u8>, code: &mut Vec<u8>) -> Result<(), AllocError> {
-        record.extend_from_slice(&self.carriers.to_be_bytes())?;
-        record.extend_from_slice(&self.events.to_be_bytes())?;
-        record.push(self.kind as u8)?;
-        record.push(low_byte(self.defaults.len()))?;
-        record.push(low_byte(self.tasks.len()))?;
-        put_expression(record, code, self.condition.as_slice())?;
-        put_action(record, code, self.defaults.as_slice())?;
-        put_action(record, code, self.tasks.as_slice())
+    /// Puts the pair of an expression into the records, and the expression behind the code so far.
+    fn put_expression(&mut self, expression: &[u8]) -> Result<(), AllocError> {
+        put_two(&mut self.records, self.code.len())?;
+        put_two(&mut self.records, expression.len())?;
+        self.code.extend_from_slice(expression)
     }
-}
 
-impl Clause {
-    fn put(&self, record: &mut Vec<u8>, code: &mut Vec<u8>) -> Result<(), AllocError> {
-        record.push(self.device)?;
-        put_expression(record, code, self.test.as_slice())
+    /// Puts four slots, zeros where an action has none; a fifth assignment of an action only counts.
+    fn put_action(&mut self, action: &[Slot]) -> Result<(), AllocError> {
+        for slot in action.iter().take(SLOTS) {
+            self.records.push(slot.target)?;
+            self.put_expression(&slot.value)?;
+        }
+        let unused = SLOTS.saturating_sub(action.len());
+        self.records.extend(repeat_n(0, SLOT * unused))
+    }
+
+    fn put_rule(&mut self, rule: &Rule) -> Result<(), AllocError> {
+        self.records
+            .extend_from_slice(&rule.carriers.to_be_bytes())?;
+        self.records.extend_from_slice(&rule.events.to_be_bytes())?;
+        self.records.extend_from_slice(&[
+            kind_byte(rule.kind),
+            low_byte(rule.defaults.len()),
+            low_byte(rule.tasks.len()),
+        ])?;
+        self.put_expression(&rule.condition)?;
+        self.put_action(&rule.defaults)?;
+        self.put_action(&rule.tasks)
+    }
+
+    fn put_clause(&mut self, clause: &Clause) -> Result<(), AllocError> {
+        self.records.push(clause.device)?;
+        self.put_expression(&clause.test)
     }
 }
 
 impl Builder {
-    pub fn new(heap: Global) -> Builder {
-        Builder {
-            levels: Vec::new(heap),
-            masks: Vec::new(heap),
-            starts: Vec::new(heap),
-            rules: Vec::new(heap),
-            clauses: Vec::new(heap),
-        }
-    }
-
     fn counts(&self) -> [u8; 4] {
         [
-            low_byte(self.masks.len()),
-            low_byte(self.levels.len()),
-            low_byte(self.rules.len()),
-            low_byte(self.clauses.len()),
+            self.masks.len(),
+            self.levels.len(),
+            self.rules.len(),
+            self.clauses.len(),
         ]
+        .map(low_byte)
     }
 
     fn cells(&self, heap: Global) -> Result<Vec<u8>, AllocError> {
-        let mut cells = Vec::new(heap);
-        for mask in self.masks.iter() {
-            cells.extend_from_slice(&mask.to_be_bytes())?;
-        }
-        Ok(cells)
+        self.masks
+            .iter()
+            .flat_map(|mask| mask.to_be_bytes())
+            .collect(heap)
     }
 
     fn starts(&self, heap: Global) -> Result<Vec<u8>, AllocError> {
-        let mut starts = Vec::new(heap);
-        for start in self.starts.iter() {
-            starts.extend_from_slice(&start.to_be_bytes())?;
-        }
-        Ok(starts)
+        self.starts
+            .iter()
+            .flat_map(|start| start.to_be_bytes())
+            .collect(heap)
     }
 
-    fn rules(&self, heap: Global, code: &mut Vec<u8>) -> Result<Vec<u8>, AllocError> {
-        let mut rules = Vec::new(heap);
-        for rule in self.rules.iter() {
-            rule.put(&mut rules, code)?;
+    /// The records of the rules, with their code.
+    fn rules(&self, heap: Global) -> Result<Writer, AllocError> {
+        let mut writer = Writer::behind(heap, Vec::new(heap));
+        for rule in &self.rules {
+            writer.put_rule(rule)?;
         }
-        Ok(rules)
+        Ok(writer)
     }
 
-    fn clauses(&self, heap: Global, code: &mut Vec<u8>) -> Result<Vec<u8>, AllocError> {
-        let mut clauses = Vec::new(heap);
-        for clause in self.clauses.iter() {
-            clause.put(&mut clauses, code)?;
+    /// The records of the clauses, with their code behind that of the rules.
+    fn clauses(&self, heap: Global, code: Vec<u8>) -> Result<Writer, AllocError> {
+        let mut writer = Writer::behind(heap, code);
+        for clause in &self.clauses {
+            writer.put_clause(clause)?;
         }
-        Ok(clauses)
+        Ok(writer)
     }
 
     /// The sections of the book's file.
     pub fn sections(&self, heap: Global) -> Result<Sections, AllocError> {
-        let mut code = Vec::new(heap);
-        let rules = self.rules(heap, &mut code)?;
-        let clauses = self.clauses(heap, &mut code)?;
+        let Writer {
+            records: rules,
+            code,
+        } = self.rules(heap)?;
+        let Writer {
+            records: clauses,
+            code,
+        } = self.clauses(heap, code)?;
         Ok(Sections {
             counts: self.counts(),
             levels: self.levels.clone()?,

@@ -1,13 +1,17 @@
 //! How many devices, resources, rules, clauses and slots a book may have.
-use super::answer::{Answer, answer_to};
-use super::builder::{Builder, Clause, Kind, Rule, Slot};
-use super::code::{Step, code};
+use super::answer::{ACCEPTED, Answer};
+use super::builder::{Builder, Clause, Rule, Slot};
+use super::code::code;
 use super::tally::Tally;
+use book::Kind;
+use fault::BookCause;
+use meaning::Instruction;
 use std::alloc::{AllocError, Global};
 use std::io;
+use std::ops::RangeInclusive;
 
 /// A count in the header of a file.
-#[derive(Clone, Copy)]
+#[derive(Clone, Copy, PartialEq, Eq)]
 pub enum Count {
     Devices,
     Resources,
@@ -16,17 +20,8 @@ pub enum Count {
 }
 
 impl Count {
-    fn name(self) -> &'static str {
-        match self {
-            Count::Devices => "devices",
-            Count::Resources => "resources",
-            Count::Rules => "rules",
-            Count::Clauses => "clauses",
-        }
-    }
-
     /// The byte of the header that has the count.
-    fn place(self) -> u32 {
+    fn byte(self) -> u32 {
         match self {
             Count::Devices => 4,
             Count::Resources => 5,
@@ -35,19 +30,19 @@ impl Count {
         }
     }
 
-    fn least(self) -> usize {
+    /// The sizes that are accepted.
+    fn bounds(self) -> RangeInclusive<usize> {
         match self {
-            Count::Devices | Count::Resources => 1,
-            Count::Rules | Count::Clauses => 0,
+            Count::Devices => 1..=16,
+            Count::Resources => 1..=32,
+            Count::Rules | Count::Clauses => 0..=32,
         }
     }
+}
 
-    fn most(self) -> usize {
-        match self {
-            Count::Devices => 16,
-            Count::Resources | Count::Rules | Count::Clauses => 32,
-        }
-    }
+/// The code of a read of resource 0.
+fn read(heap: Global) -> Result<Vec<u8>, AllocError> {
+    code(heap, &[Instruction::Own(0)])
 }
 
 /// A rule of device 0 without assignments, which reads resource 0.
@@ -56,82 +51,69 @@ fn plain_rule(heap: Global) -> Result<Rule, AllocError> {
         carriers: 1,
         events: 1,
         kind: Kind::Local,
-        condition: code(heap, &[Step::Own(0)])?,
+        condition: read(heap)?,
         defaults: Vec::new(heap),
         tasks: Vec::new(heap),
     })
 }
 
-fn plain_rules(heap: Global, count: usize) -> Result<Vec<Rule>, AllocError> {
-    let mut rules = Vec::new(heap);
-    for _ in 0..count {
-        rules.push(plain_rule(heap)?)?;
-    }
-    Ok(rules)
-}
-
-fn plain_clauses(heap: Global, count: usize) -> Result<Vec<Clause>, AllocError> {
-    let mut clauses = Vec::new(heap);
-    for _ in 0..count {
-        let test = code(heap, &[Step::Own(0)])?;
-        clauses.push(Clause { device: 0, test })?;
-    }
-    Ok(clauses)
+/// A clause of device 0, which reads resource 0.
+fn plain_clause(heap: Global) -> Result<Clause, AllocError> {
+    let test = read(heap)?;
+    Ok(Clause { device: 0, test })
 }
 
 /// A book with one of each but for one count. Each device has a cell for resource 0 alone.
 fn plain(heap: Global, count: Count, size: usize) -> Result<Builder, AllocError> {
-    let mut devices = 1;
-    let mut resources = 1;
-    let mut rules = 1;
-    let mut clauses = 1;
-    match count {
-        Count::Devices => devices = size,
-        Count::Resources => resources = size,
-        Count::Rules => rules = size,
-        Count::Clauses => clauses = size,
-    }
+    let size_of = |other| if other == count { size } else { 1 };
+    let devices = size_of(Count::Devices);
     Ok(Builder {
-        levels: vec![in heap; 0; resources]?,
+        levels: vec![in heap; 0; size_of(Count::Resources)]?,
         masks: vec![in heap; 1; devices]?,
         starts: vec![in heap; 0; devices]?,
-        rules: plain_rules(heap, rules)?,
-        clauses: plain_clauses(heap, clauses)?,
+        rules: (0..size_of(Count::Rules))
+            .map(|_| plain_rule(heap))
+            .try_collect(heap)?,
+        clauses: (0..size_of(Count::Clauses))
+            .map(|_| plain_clause(heap))
+            .try_collect(heap)?,
     })
 }
 
 /// Books at the limits of a count and past them.
-pub fn around(rt: &HostRuntime, count: Count) -> io::Result<Tally> {
-    let heap = rt.alloc();
-    let mut tally = Tally::new(count.name());
-    for size in [0, 1, count.most(), count.most().saturating_add(1), 255] {
-        let expected = if count.least() <= size && size <= count.most() {
-            Answer::Accepted
+pub fn around(tally: &mut Tally<'_>, count: Count) -> io::Result<()> {
+    let heap = tally.heap();
+    let bounds = count.bounds();
+    let most = *bounds.end();
+    for size in [0, 1, most, most.saturating_add(1), 255] {
+        let expected = if bounds.contains(&size) {
+            ACCEPTED
         } else {
-            Answer::Refused(2, count.place(), 0)
+            Answer::refused(BookCause::Count, count.byte(), 0)
         };
         let file = plain(heap, count, size)?.file(heap)?;
-        tally.hold(rt, size, expected, answer_to(file.as_slice()))?;
+        tally.reading(size, expected, &file)?;
     }
-    Ok(tally)
+    Ok(())
 }
 
-/// Assignments to the first resources, each of the same value.
-fn action(heap: Global, size: u8, value: &[u8]) -> Result<Vec<Slot>, AllocError> {
-    let mut slots = Vec::new(heap);
-    for target in 0..size {
-        let value = Vec::from_slice(heap, value)?;
-        slots.push(Slot { target, value })?;
-    }
-    Ok(slots)
+/// Assignments to the first resources, each of a read.
+fn action(heap: Global, size: u8) -> Result<Vec<Slot>, AllocError> {
+    (0..size)
+        .map(|target| -> Result<Slot, AllocError> {
+            let value = read(heap)?;
+            Ok(Slot { target, value })
+        })
+        .try_collect(heap)
 }
 
 /// The file of a book of one device with five resources, and of one rule, at 61, with so many assignments.
 fn file_of_slots(heap: Global, defaults: u8, tasks: u8) -> Result<Vec<u8>, AllocError> {
-    let value = code(heap, &[Step::Own(0)])?;
-    let mut rule = plain_rule(heap)?;
-    rule.defaults = action(heap, defaults, value.as_slice())?;
-    rule.tasks = action(heap, tasks, value.as_slice())?;
+    let rule = Rule {
+        defaults: action(heap, defaults)?,
+        tasks: action(heap, tasks)?,
+        ..plain_rule(heap)?
+    };
     let book = Builder {
         levels: vec![in heap; 0; 5]?,
         masks: vec![in heap; 0b11111]?,
@@ -143,23 +125,24 @@ fn file_of_slots(heap: Global, defaults: u8, tasks: u8) -> Result<Vec<u8>, Alloc
 }
 
 /// Four assignments of each action are accepted, and five are refused at their count.
-pub fn slots(rt: &HostRuntime) -> io::Result<Tally> {
-    let heap = rt.alloc();
-    let mut tally = Tally::new("slots");
+pub fn slots(tally: &mut Tally<'_>) -> io::Result<()> {
+    let heap = tally.heap();
+    let defaults_refused = Answer::refused(BookCause::Field, 68, 0);
+    let tasks_refused = Answer::refused(BookCause::Field, 69, 0);
     let cases = [
-        (0, 0, Answer::Accepted),
-        (4, 0, Answer::Accepted),
-        (0, 4, Answer::Accepted),
-        (4, 4, Answer::Accepted),
-        (5, 0, Answer::Refused(3, 68, 0)),
-        (0, 5, Answer::Refused(3, 69, 0)),
-        (5, 5, Answer::Refused(3, 68, 0)),
-        (255, 4, Answer::Refused(3, 68, 0)),
+        (0, 0, ACCEPTED),
+        (4, 0, ACCEPTED),
+        (0, 4, ACCEPTED),
+        (4, 4, ACCEPTED),
+        (5, 0, defaults_refused),
+        (0, 5, tasks_refused),
+        (5, 5, defaults_refused),
+        (255, 4, defaults_refused),
     ];
     for (defaults, tasks, expected) in cases {
         let file = file_of_slots(heap, defaults, tasks)?;
         let name = format!(in heap; "{defaults} and {tasks}")?;
-        tally.hold(rt, name, expected, answer_to(file.as_slice()))?;
+        tally.reading(name, expected, &file)?;
     }
-    Ok(tally)
+    Ok(())
 }

@@ -1,13 +1,16 @@
 //! How deep and how long an expression may be, in each place where one can stand.
-use super::answer::{Answer, answer_to};
-use super::builder::{Builder, Clause, Kind, Rule, Slot};
-use super::code::{Operator, Step, code, repeat};
+use super::answer::{ACCEPTED, Answer};
+use super::builder::{Builder, Clause, Rule, Slot};
+use super::code::{code, reads_then};
 use super::tally::Tally;
+use book::Kind;
+use fault::BookCause;
+use meaning::{Instruction, Operator};
 use std::alloc::{AllocError, Global};
 use std::io;
 
 /// A place where an expression can stand.
-#[derive(Clone, Copy)]
+#[derive(Clone, Copy, PartialEq, Eq)]
 enum Part {
     Condition,
     Default,
@@ -15,9 +18,9 @@ enum Part {
     Clause,
 }
 
-const PARTS: [Part; 4] = [Part::Condition, Part::Default, Part::Task, Part::Clause];
-
 impl Part {
+    const ALL: [Part; 4] = [Part::Condition, Part::Default, Part::Task, Part::Clause];
+
     fn name(self) -> &'static str {
         match self {
             Part::Condition => "condition",
@@ -36,39 +39,34 @@ impl Part {
             Part::Clause => 105,
         }
     }
+
+    /// The answer to a file whose expression in this part is wrong at its byte `at`.
+    fn refused(self, at: u32) -> Answer {
+        Answer::refused(BookCause::Expression, self.place(), at)
+    }
 }
 
 /// The file of a book of one device, one resource, one rule and one clause, with an expression in one part and a read in
 /// the others.
-fn file_with(heap: Global, part: Part, expression: Vec<u8>) -> Result<Vec<u8>, AllocError> {
-    let mut condition = code(heap, &[Step::Own(0)])?;
-    let mut default = condition.clone()?;
-    let mut task = condition.clone()?;
-    let mut test = condition.clone()?;
-    match part {
-        Part::Condition => condition = expression,
-        Part::Default => default = expression,
-        Part::Task => task = expression,
-        Part::Clause => test = expression,
-    }
+fn file_with(heap: Global, part: Part, expression: &[u8]) -> Result<Vec<u8>, AllocError> {
+    let read = code(heap, &[Instruction::Own(0)])?;
+    let code_of = |other: Part| {
+        let code = if other == part { expression } else { &read };
+        Vec::from_slice(heap, code)
+    };
+    let slot_of = |other: Part| -> Result<Slot, AllocError> {
+        let value = code_of(other)?;
+        Ok(Slot { target: 0, value })
+    };
     let rule = Rule {
         carriers: 1,
         events: 1,
         kind: Kind::Local,
-        condition,
-        defaults: vec![in heap;
-            Slot {
-                target: 0,
-                value: default
-            },
-        ]?,
-        tasks: vec![in heap;
-            Slot {
-                target: 0,
-                value: task
-            },
-        ]?,
+        condition: code_of(Part::Condition)?,
+        defaults: vec![in heap; slot_of(Part::Default)?]?,
+        tasks: vec![in heap; slot_of(Part::Task)?]?,
     };
+    let test = code_of(Part::Clause)?;
     let book = Builder {
         levels: vec![in heap; 0]?,
         masks: vec![in heap; 1]?,
@@ -81,75 +79,52 @@ fn file_with(heap: Global, part: Part, expression: Vec<u8>) -> Result<Vec<u8>, A
 
 /// Reads until the stack is so deep, and then sums.
 fn deep(heap: Global, depth: usize) -> Result<Vec<u8>, AllocError> {
-    let mut code = Vec::new(heap);
-    repeat(&mut code, Step::Own(0), depth)?;
-    repeat(
-        &mut code,
-        Step::Apply(Operator::Add),
-        depth.saturating_sub(1),
-    )?;
-    Ok(code)
+    reads_then(heap, depth, Operator::Add, depth.saturating_sub(1))
 }
 
 /// A depth of 8 is accepted, and one of 9 is refused at the ninth read.
-pub fn depth(rt: &HostRuntime) -> io::Result<Tally> {
-    let heap = rt.alloc();
-    let mut tally = Tally::new("depth");
-    for part in PARTS {
+pub fn depth(tally: &mut Tally<'_>) -> io::Result<()> {
+    let heap = tally.heap();
+    for part in Part::ALL {
         let name = part.name();
-        let most = file_with(heap, part, deep(heap, 8)?)?;
-        tally.hold(
-            rt,
-            format!(in heap; "{name}, 8")?,
-            Answer::Accepted,
-            answer_to(most.as_slice()),
-        )?;
-        let over = file_with(heap, part, deep(heap, 9)?)?;
-        let refused = Answer::Refused(4, part.place(), 16);
-        tally.hold(
-            rt,
-            format!(in heap; "{name}, 9")?,
-            refused,
-            answer_to(over.as_slice()),
-        )?;
-    }
-    Ok(tally)
-}
-
-/// An expression of so many bytes: a read, if there is room for one, and operators of one operand.
-fn long(heap: Global, size: usize) -> Result<Vec<u8>, AllocError> {
-    let mut code = Vec::new(heap);
-    let reads = size.min(2) / 2;
-    repeat(&mut code, Step::Own(0), reads)?;
-    let left = size.saturating_sub(code.len());
-    repeat(&mut code, Step::Apply(Operator::Not), left)?;
-    Ok(code)
-}
-
-/// Some lengths in one part: 2 to 64 bytes are accepted, since no expression of one byte has an operand.
-fn lengths_of(rt: &HostRuntime, tally: &mut Tally, part: Part) -> io::Result<()> {
-    let heap = rt.alloc();
-    let name = part.name();
-    for size in [0, 1, 2, 64, 65] {
-        let expected = match size {
-            2..=64 => Answer::Accepted,
-            _ => Answer::Refused(4, part.place(), 0),
-        };
-        let file = file_with(heap, part, long(heap, size)?)?;
-        tally.hold(
-            rt,
-            format!(in heap; "{name}, {size}")?,
-            expected,
-            answer_to(file.as_slice()),
-        )?;
+        let most = file_with(heap, part, &deep(heap, 8)?)?;
+        tally.reading(format!(in heap; "{name}, 8")?, ACCEPTED, &most)?;
+        let over = file_with(heap, part, &deep(heap, 9)?)?;
+        tally.reading(format!(in heap; "{name}, 9")?, part.refused(16), &over)?;
     }
     Ok(())
 }
 
-pub fn length(rt: &HostRuntime) -> io::Result<Tally> {
-    let mut tally = Tally::new("length");
-    for part in PARTS {
-        lengths_of(rt, &mut tally, part)?;
+/// An expression of so many bytes: a read, if there is room for one, and operators of one operand.
+fn long(heap: Global, size: usize) -> Result<Vec<u8>, AllocError> {
+    match size.checked_sub(2) {
+        Some(left) => reads_then(heap, 1, Operator::Not, left),
+        None => reads_then(heap, 0, Operator::Not, size),
     }
-    Ok(tally)
+}
+
+/// Some lengths in one part: 2 to 64 bytes are accepted, since no expression of one byte has an operand.
+fn lengths_of(tally: &mut Tally<'_>, part: Part) -> io::Result<()> {
+    let heap = tally.heap();
+    let name = part.name();
+    let cases = [
+        (0, part.refused(0)),
+        (1, part.refused(0)),
+        (2, ACCEPTED),
+        (64, ACCEPTED),
+        (65, part.refused(0)),
+    ];
+    for (size, expected) in cases {
+        let file = file_with(heap, part, &long(heap, size)?)?;
+        tally.reading(format!(in heap; "{name}, {size}")?, expected, &file)?;
+    }
+    Ok(())
+}
+
+/// Some lengths in each part.
+pub fn length(tally: &mut Tally<'_>) -> io::Result<()> {
+    for part in Part::ALL {
+        lengths_of(tally, part)?;
+    }
+    Ok(())
 }

@@ -2,39 +2,38 @@
 //!
 //! Its file has 248 bytes: levels from 32, cells from 36, starts from 48, rules at 84 and 137, clauses at 190 and 195,
 //! and code from 200, with expressions at 200, 208, 216, 218, 223, 228, 230, 235 and 240.
-use super::builder::{Builder, Clause, Kind, Rule, Slot};
-use super::code::{Operator, Step, code};
+use super::builder::{Builder, Clause, Rule, Slot};
+use super::code::code;
+use book::Kind;
+use meaning::Instruction::{Apply, Constant, Own, Receiver};
+use meaning::{Instruction, Operator};
 use std::alloc::{AllocError, Global};
 
-fn slot(heap: Global, target: u8, steps: &[Step]) -> Result<Slot, AllocError> {
-    let value = code(heap, steps)?;
+fn slot(heap: Global, target: u8, instructions: &[Instruction]) -> Result<Slot, AllocError> {
+    let value = code(heap, instructions)?;
     Ok(Slot { target, value })
 }
 
 /// A local rule of devices 0 and 1, which have all its cells, and which have resource 2 in common but not resource 3.
 fn local_rule(heap: Global) -> Result<Rule, AllocError> {
-    let condition = [
-        Step::Own(0),
-        Step::Constant(100),
-        Step::Apply(Operator::Less),
-    ];
-    let default = [Step::Own(0), Step::Constant(1), Step::Apply(Operator::Add)];
+    let condition = [Own(0), Constant(100), Apply(Operator::Less)];
+    let default = [Own(0), Constant(1), Apply(Operator::Add)];
     Ok(Rule {
         carriers: 0b011,
         events: 0b0001,
         kind: Kind::Local,
         condition: code(heap, &condition)?,
         defaults: vec![in heap; slot(heap, 1, &default)?]?,
-        tasks: vec![in heap; slot(heap, 2, &[Step::Own(1)])?]?,
+        tasks: vec![in heap; slot(heap, 2, &[Own(1)])?]?,
     })
 }
 
 /// A remote rule of devices 0 and 1. Its task sets resource 3, which device 1 itself lacks.
 fn remote_rule(heap: Global) -> Result<Rule, AllocError> {
-    let condition = [Step::Own(1), Step::Receiver(1), Step::Apply(Operator::Less)];
-    let task = [Step::Receiver(3), Step::Own(0), Step::Apply(Operator::Add)];
-    let first = slot(heap, 0, &[Step::Constant(0)])?;
-    let second = slot(heap, 1, &[Step::Own(2)])?;
+    let condition = [Own(1), Receiver(1), Apply(Operator::Less)];
+    let task = [Receiver(3), Own(0), Apply(Operator::Add)];
+    let first = slot(heap, 0, &[Constant(0)])?;
+    let second = slot(heap, 1, &[Own(2)])?;
     Ok(Rule {
         carriers: 0b011,
         events: 0b0110,
@@ -45,8 +44,8 @@ fn remote_rule(heap: Global) -> Result<Rule, AllocError> {
     })
 }
 
-fn clause(heap: Global, device: u8, steps: &[Step]) -> Result<Clause, AllocError> {
-    let test = code(heap, steps)?;
+fn clause(heap: Global, device: u8, instructions: &[Instruction]) -> Result<Clause, AllocError> {
+    let test = code(heap, instructions)?;
     Ok(Clause { device, test })
 }
 
@@ -54,12 +53,8 @@ fn clause(heap: Global, device: u8, steps: &[Step]) -> Result<Clause, AllocError
 pub fn sample(heap: Global) -> Result<Builder, AllocError> {
     let local = local_rule(heap)?;
     let remote = remote_rule(heap)?;
-    let low = [Step::Own(0), Step::Own(1), Step::Apply(Operator::AtMost)];
-    let high = [
-        Step::Own(3),
-        Step::Constant(50),
-        Step::Apply(Operator::Less),
-    ];
+    let low = [Own(0), Own(1), Apply(Operator::AtMost)];
+    let high = [Own(3), Constant(50), Apply(Operator::Less)];
     let on_two = clause(heap, 2, &low)?;
     let on_zero = clause(heap, 0, &high)?;
     Ok(Builder {

@@ -2,11 +2,9 @@
 use std::alloc::{AllocError, Global};
 
 /// The bytes of a header.
-const HEADER: usize = 32;
-/// The byte of the header at which the pairs begin, and the bytes of a pair.
-const PAIRS: u32 = 8;
-
-const PAIR: u32 = 4;
+pub const HEADER: usize = 32;
+/// The bytes of the header at which the pairs of the sections stand.
+const PAIRS: [u32; 6] = [8, 12, 16, 20, 24, 28];
 
 /// The counts that a header gives, and the bytes of the six sections.
 #[derive(Drop)]
@@ -28,23 +26,31 @@ pub fn put_two(out: &mut Vec<u8>, number: usize) -> Result<(), AllocError> {
 impl Sections {
     fn bodies(&self) -> [&[u8]; 6] {
         [
-            self.levels.as_slice(),
-            self.cells.as_slice(),
-            self.starts.as_slice(),
-            self.rules.as_slice(),
-            self.clauses.as_slice(),
-            self.code.as_slice(),
+            &self.levels,
+            &self.cells,
+            &self.starts,
+            &self.rules,
+            &self.clauses,
+            &self.code,
         ]
+    }
+
+    /// Where each section begins and ends in the file.
+    fn spans(&self) -> [(usize, usize); 6] {
+        let mut end = HEADER;
+        self.bodies().map(|body| {
+            let from = end;
+            end = from.saturating_add(body.len());
+            (from, end)
+        })
     }
 
     fn header(&self, heap: Global) -> Result<Vec<u8>, AllocError> {
         let mut out = Vec::from_slice(heap, b"ABU1")?;
         out.extend_from_slice(&self.counts)?;
-        let mut from = HEADER;
-        for body in self.bodies() {
+        for (from, end) in self.spans() {
             put_two(&mut out, from)?;
-            put_two(&mut out, body.len())?;
-            from = from.saturating_add(body.len());
+            put_two(&mut out, end.saturating_sub(from))?;
         }
         Ok(out)
     }
@@ -60,15 +66,10 @@ impl Sections {
 
     /// The byte of the first header pair whose section ends past `size` bytes.
     pub fn first_past(&self, size: usize) -> Option<u32> {
-        let mut end = HEADER;
-        let mut at = PAIRS;
-        for body in self.bodies() {
-            end = end.saturating_add(body.len());
-            if end > size {
-                return Some(at);
-            }
-            at = at.saturating_add(PAIR);
-        }
-        None
+        PAIRS
+            .into_iter()
+            .zip(self.spans())
+            .find(|(_, (_, end))| *end > size)
+            .map(|(pair, _)| pair)
     }
 }

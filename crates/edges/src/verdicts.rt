@@ -1,116 +1,153 @@
 //! Verdicts on books under orders, with the answers that they are to have.
+use super::answer::Answer;
 use super::tally::Tally;
+use super::vectors::file;
 use book::{Draft, read};
+use fault::Fault;
 use levels::{Ladder, Order, SetOrder};
 use std::alloc::{AllocError, Global};
-use std::{fs, io};
+use std::str::FromStr;
+use std::{fmt, fs, io};
 use verdict::{flows, may_judge};
 
 /// Room for every list of the files.
 const ROOM: usize = 65_536;
 
+/// Which order a book is judged under.
+#[derive(Clone, Copy)]
+enum OrderKind {
+    Ladder,
+    Sets,
+}
+
+impl FromStr for OrderKind {
+    type Err = ();
+
+    fn from_str(word: &str) -> Result<OrderKind, ()> {
+        match word {
+            "ladder" => Ok(OrderKind::Ladder),
+            "sets" => Ok(OrderKind::Sets),
+            _ => Err(()),
+        }
+    }
+}
+
+/// What is asked of a book: whether it may be judged, or the list of its forbidden flows.
+#[derive(Clone, Copy)]
+enum Asked {
+    Judge,
+    Flows,
+}
+
+impl FromStr for Asked {
+    type Err = ();
+
+    fn from_str(word: &str) -> Result<Asked, ()> {
+        match word {
+            "judge" => Ok(Asked::Judge),
+            "flows" => Ok(Asked::Flows),
+            _ => Err(()),
+        }
+    }
+}
+
 /// One line of the list: a book, an order with its size, what is asked, and the answer.
 #[derive(Clone, Copy)]
 struct Case<'a> {
     book: &'a str,
-    order: &'a str,
+    order: OrderKind,
     size: u32,
-    asked: &'a str,
+    asked: Asked,
     expected: &'a str,
 }
 
-/// The case that a line spells.
-fn spelt(line: &str) -> Option<Case<'_>> {
-    let (book, rest) = line.split_once(' ')?;
-    let (order, rest) = rest.split_once(' ')?;
-    let (size, rest) = rest.split_once(' ')?;
-    let (asked, expected) = rest.split_once(' ')?;
-    let Ok(size) = size.parse::<u32>() else {
-        return None;
-    };
-    Some(Case {
-        book,
-        order,
-        size,
-        asked,
-        expected,
-    })
+impl<'a> Case<'a> {
+    /// The case that a line spells.
+    fn of(line: &'a str) -> Option<Case<'a>> {
+        let (book, rest) = line.split_once(' ')?;
+        let (order, rest) = rest.split_once(' ')?;
+        let (size, rest) = rest.split_once(' ')?;
+        let (asked, expected) = rest.split_once(' ')?;
+        Some(Case {
+            book,
+            order: order.parse().ok()?,
+            size: size.parse().ok()?,
+            asked: asked.parse().ok()?,
+            expected,
+        })
+    }
+
+    /// What the case's book is told.
+    fn said(&self, heap: Global, draft: &Draft) -> Result<String, AllocError> {
+        match self.order {
+            OrderKind::Ladder => said(heap, draft, Ladder::new(self.size), self.asked),
+            OrderKind::Sets => said(heap, draft, SetOrder::new(self.size), self.asked),
+        }
+    }
 }
 
 /// The bytes of a list in hexadecimal, or `none`.
-fn hexadecimal(heap: Global, list: &[u8]) -> Result<String, AllocError> {
-    if list.is_empty() {
-        return String::from_str(heap, "none");
-    }
-    let mut text = String::new(heap);
-    for byte in list {
-        let digits = format!(in heap; "{byte:02x}")?;
-        text.push_str(digits.as_str())?;
-    }
-    Ok(text)
-}
+#[derive(Clone, Copy)]
+struct Hexadecimal<'a>(&'a [u8]);
 
-/// What judging says: `ok`, or the text of the fault.
-fn judged<O: Order>(heap: Global, draft: &Draft, order: &O) -> Result<String, AllocError> {
-    match may_judge(draft, order) {
-        Ok(()) => String::from_str(heap, "ok"),
-        Err(fault) => format!(in heap; "{fault}"),
+impl fmt::Display for Hexadecimal<'_> {
+    fn fmt<W: fmt::Write>(&self, f: &mut fmt::Formatter<W>) -> fmt::Result {
+        if self.0.is_empty() {
+            return write!(f, "none");
+        }
+        for byte in self.0 {
+            write!(f, "{byte:02x}")?;
+        }
+        Ok(())
     }
 }
 
 /// What the list says: its bytes, or the text of the fault.
 fn listed<O: Order>(heap: Global, draft: &Draft, order: &O) -> Result<String, AllocError> {
     let mut room = vec![in heap; 0u8; ROOM]?;
-    match flows(draft, order, room.as_mut_slice()) {
-        Ok(length) => hexadecimal(heap, room.as_slice().get(0..length).unwrap_or(&[])),
-        Err(fault) => format!(in heap; "{fault}"),
+    match flows(draft, order, &mut room) {
+        Ok(length) => Hexadecimal(room.get(..length).unwrap_or(&[])).to_string(heap),
+        Err(fault) => fault.to_string(heap),
     }
 }
 
-/// What is said under an order.
-fn under<O: Order>(
+/// What is said under an order, if there is one of the size.
+fn said<O: Order + Drop>(
     heap: Global,
     draft: &Draft,
-    order: &O,
-    asked: &str,
+    order: Result<O, Fault>,
+    asked: Asked,
 ) -> Result<String, AllocError> {
-    if asked == "judge" {
-        return judged(heap, draft, order);
+    let order = match order {
+        Ok(order) => order,
+        Err(fault) => return fault.to_string(heap),
+    };
+    match asked {
+        Asked::Judge => Answer(may_judge(draft, &order)).to_string(heap),
+        Asked::Flows => listed(heap, draft, &order),
     }
-    listed(heap, draft, order)
 }
 
-/// What a case's book is told.
-fn said(heap: Global, draft: &Draft, case: Case<'_>) -> Result<String, AllocError> {
-    if case.order == "ladder" {
-        return match Ladder::new(case.size) {
-            Ok(ladder) => under(heap, draft, &ladder, case.asked),
-            Err(fault) => format!(in heap; "{fault}"),
-        };
-    }
-    match SetOrder::new(case.size) {
-        Ok(sets) => under(heap, draft, &sets, case.asked),
-        Err(fault) => format!(in heap; "{fault}"),
-    }
+/// The draft of a book's file, or the smallest one where the file is refused.
+fn draft_of(rt: &HostRuntime, name: &str) -> io::Result<Draft> {
+    let mut draft = Draft::smallest();
+    let _ = read(&file(rt, "books", name)?, &mut draft);
+    Ok(draft)
 }
 
 /// Each book of the list is judged, and its flows are listed, as the list says.
-pub fn verdicts(rt: &HostRuntime) -> io::Result<Tally> {
-    let mut tally = Tally::new("verdicts");
+pub fn verdicts(tally: &mut Tally<'_>) -> io::Result<()> {
+    let rt = tally.rt;
     let list = fs::read_to_string(rt, "verdicts.txt")?;
-    for line in list.as_str().lines() {
-        let Some(case) = spelt(line) else {
+    for line in list.lines() {
+        let Some(case) = Case::of(line) else {
             continue;
         };
-        let name = case.book;
-        let path = format!(in rt.alloc(); "books/{name}.abu")?;
-        let file = fs::read(rt, path.as_str())?;
-        let mut draft = Draft::smallest();
-        let _ = read(file.as_slice(), &mut draft);
-        let came = said(rt.alloc(), &draft, case)?;
-        tally.hold(rt, line, case.expected, came.as_str())?;
+        let draft = draft_of(rt, case.book)?;
+        let came = case.said(tally.heap(), &draft)?;
+        tally.hold(line, case.expected, came.as_str())?;
     }
-    Ok(tally)
+    Ok(())
 }
 
 /// A list in a buffer of a length, filled with `a` bytes before: what is answered, and what the buffer then holds.
@@ -119,8 +156,8 @@ fn within(heap: Global, draft: &Draft, length: usize) -> Result<String, AllocErr
         return String::from_str(heap, "no ladder");
     };
     let mut room = vec![in heap; 0xaau8; length]?;
-    let answer = flows(draft, &ladder, room.as_mut_slice());
-    let held = hexadecimal(heap, room.as_slice())?;
+    let answer = flows(draft, &ladder, &mut room);
+    let held = Hexadecimal(&room);
     match answer {
         Ok(length) => format!(in heap; "{length} {held}"),
         Err(fault) => format!(in heap; "{fault} {held}"),
@@ -128,16 +165,16 @@ fn within(heap: Global, draft: &Draft, length: usize) -> Result<String, AllocErr
 }
 
 /// A list of one flow in buffers of 4, 5 and 7 bytes: too short, exact, and with bytes beyond that stay.
-pub fn buffers(rt: &HostRuntime) -> io::Result<Tally> {
-    let mut tally = Tally::new("buffers");
-    let file = fs::read(rt, "books/kind-3.abu")?;
-    let mut draft = Draft::smallest();
-    let _ = read(file.as_slice(), &mut draft);
-    let short = within(rt.alloc(), &draft, 4)?;
-    tally.hold(rt, "too short", "no 9 5 4 aaaaaaaa", short.as_str())?;
-    let exact = within(rt.alloc(), &draft, 5)?;
-    tally.hold(rt, "exact", "5 0000030001", exact.as_str())?;
-    let longer = within(rt.alloc(), &draft, 7)?;
-    tally.hold(rt, "longer", "5 0000030001aaaa", longer.as_str())?;
-    Ok(tally)
+pub fn buffers(tally: &mut Tally<'_>) -> io::Result<()> {
+    let draft = draft_of(tally.rt, "kind-3")?;
+    let cases = [
+        ("too short", 4, "no 9 5 4 aaaaaaaa"),
+        ("exact", 5, "5 0000030001"),
+        ("longer", 7, "5 0000030001aaaa"),
+    ];
+    for (name, length, expected) in cases {
+        let came = within(tally.heap(), &draft, length)?;
+        tally.hold(name, expected, came.as_str())?;
+    }
+    Ok(())
 }
