@@ -51,6 +51,7 @@ impl Layout {
     {
         self.clauses_from() + CLAUSE * self.clauses
     }
+
     /// Where the mask of device `d` stands.
     pub fn mask_from(&self, d: usize) -> usize
         requires { d < 256 }
