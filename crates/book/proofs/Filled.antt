@@ -37,7 +37,7 @@ module _ (bs : List ℕ) (c : ℕ) where
   kind_remote true = refl
   kind_remote false = refl
 
-  spelt_rule : (p : ℕ) → byte_at bs (p + 7) ≤ 4 → byte_at bs (p + 8) ≤ 4 → rule_means (drop c bs) (rule_spelt bs p) ≡ rule_at bs c p
+  pub spelt_rule : (p : ℕ) → byte_at bs (p + 7) ≤ 4 → byte_at bs (p + 8) ≤ 4 → rule_means (drop c bs) (rule_spelt bs p) ≡ rule_at bs c p
   unfolding rule_at
   spelt_rule p few less =
       λ i.

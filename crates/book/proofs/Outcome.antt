@@ -6,7 +6,7 @@ use Rattle.meaning.specs.Bytes.{Bytes, byte_at}
 use Rattle.meaning.specs.Checks.{bind, through}
 use Rattle.meaning.specs.File.{encoded, book_code}
 use Rattle.meaning.specs.Layout as meant
-use Rattle.meaning.specs.Layout.{layout, rules_from, room}
+use Rattle.meaning.specs.Layout.{layout, rules_from, code_from, room}
 use Rattle.meaning.specs.Parsed.{spelt}
 use Rattle.meaning.specs.Reading.{Verdict, mask_checked, rule_checked, head_checked, fields_checked, expressions_checked, cells_checked, checked, reading}
 use Rattle.meaning.specs.WellFormed.{WellFormed}
@@ -36,6 +36,10 @@ unfolding reading
 answered bs f e = ap (λ r. bind r (λ _. Ok (spelt bs (layout bs)))) e
 
 module _ {bs : List ℕ} {l : Layout} (framed : Framed bs l) where
+  -- the code ends inside the file
+  pub inside : code_from (plan l) + room (plan l) ≤ length bs
+  inside = omega (arith, ap (λ m. m.size) framed.is)
+
   pub fields_refuse : (f : Fault) → fields_checked bs (plan l) ≡ Err f → reading bs ≡ Err f
   unfolding checked
   fields_refuse f e =
@@ -60,7 +64,7 @@ module _ {bs : List ℕ} {l : Layout} (framed : Framed bs l) where
         rw (framed.first, framed.counts, framed.sections, before, expressions) cells
 
     -- no action of a rule has more than four slots
-    few_slots : (i : ℕ) → i < l.rules → (byte_at bs (rules_from (plan l) + 53 * i + 7) ≤ 4) × (byte_at bs (rules_from (plan l) + 53 * i + 8) ≤ 4)
+    pub few_slots : (i : ℕ) → i < l.rules → (byte_at bs (rules_from (plan l) + 53 * i + 7) ≤ 4) × (byte_at bs (rules_from (plan l) + 53 * i + 8) ≤ 4)
     unfolding fields_checked rule_checked
     few_slots i h =
         let after_masks = both (through (mask_checked bs (plan l)) l.devices 0 tt) _ tt fields in

@@ -22,7 +22,7 @@ use Rattle.book.specs.Parts.{action_of}
 use Rattle.book.specs.Rights.{widest, RightCode, RightSlot, RightAction, RightRule, RightClause}
 use Rattle.book.specs.Runnable.{Runnable}
 use Rattle.book.specs.Sides.{Small}
-use Rattle.book.proofs.Smallness.{right_small}
+use Rattle.book.proofs.Smallness.{from_small}
 
 -- what holds of each element's image holds of that of the one at k
 pub every_at : {X Y : Type 0} (p : Y → Bool) (f : X → Y) (xs : List X) (k : ℕ) (d : X) → every p (map f xs) ≡ true → k < length xs → p (f (get_or xs k d)) ≡ true
@@ -75,7 +75,7 @@ module _ (s : Scope) (few : s.resources ≤ 32) where
       from_wider s (widest 32) few refl 0 (decoded code) (and_parts (right_from s 0 (decoded code)) _ h).0
 
 pub code_small : (code : List ℕ) → RightCode code → Small code
-code_small code h = right_small (widest 32) (omega arith) 0 (decoded code) h
+code_small code h = from_small (widest 32) (omega arith) 0 (decoded code) h
 
 pub code_runnable : (code : List ℕ) → RightCode code → Runnable code
 code_runnable code h = record { scope = widest 32; right = h }

@@ -1,26 +1,21 @@
--- What lets a set of cells be a mask of 32 bits, of the parts of a file: each resource that is read or set is below 32.
+-- What lets a set of cells be a mask of 32 bits, of slots and rules: each resource that is read or set is below 32.
 -- Assumes nothing.
-use Rattle.std.specs.Prelude.{ℕ, ◌+◌, ◌*◌, ◌<◌, Bool, cond, List}
-use Rattle.meaning.specs.Book.{Slot}
-use Rattle.meaning.specs.Bytes.{byte_at}
+use Rattle.std.specs.Prelude.{◌≡◌, ℕ, ◌<◌, Bool, true, cond, All}
+use Rattle.meaning.specs.Book.{Slot, Rule}
 use Rattle.meaning.specs.Expression.{reads}
-use Rattle.meaning.specs.Parsed.{code_at}
 use Rattle.meaning.specs.Sets.{with_member}
-use Rattle.book.specs.Sides.{Small}
+use Rattle.meaning.specs.WellFormed.{every}
+use Rattle.book.specs.Sides.{small}
 
--- the target and the reads of the slot at p, in code that begins at c
-abbrev pub SmallSlot : List ℕ → ℕ → ℕ → Type 0
-SmallSlot bs c p = (byte_at bs p < 32) × Small (code_at bs c (p + 1))
+-- the target of a slot, and what it reads
+abbrev pub SmallSlot : Slot → Type 0
+SmallSlot x = (x.target < 32) × (every small x.value ≡ true)
 
--- those of the first slots of an action at p
-abbrev pub Slots : List ℕ → ℕ → ℕ → ℕ → Type 0
-Slots bs c p count = (k : ℕ) → k < count → SmallSlot bs c (p + 5 * k)
-
--- the targets and the reads of the rule at p
-pub record Rules (bs : List ℕ) (c p : ℕ) : Type 0 where
-  pub condition : Small (code_at bs c (p + 9))
-  pub defaults : Slots bs c (p + 13) (byte_at bs (p + 7))
-  pub tasks : Slots bs c (p + 33) (byte_at bs (p + 8))
+-- what a rule reads and sets
+pub record SmallRule (x : Rule) : Type 0 where
+  pub condition : every small x.condition ≡ true
+  pub defaults : All SmallSlot x.defaults
+  pub tasks : All SmallSlot x.tasks
 
 -- what a slot reads, and its target where that is wanted, beside the members of m
 abbrev pub with_slot : Bool → ℕ → Slot → ℕ

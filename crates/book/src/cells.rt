@@ -1,46 +1,55 @@
 //! Whether each device has the cells that its rules need and its clauses read.
-ghost use Rattle.std.specs.Prelude.{◌≡◌, ◌+◌, ◌*◌, ◌^◌, ◌<◌};
+ghost use Rattle.std.specs.Prelude.{◌≡◌, ◌<◌, All};
 ghost use Rattle.meaning.specs.Book as meant;
-ghost use Rattle.meaning.specs.Layout.{rules_from, code_from};
-ghost use Rattle.meaning.specs.Parsed.{slot_at, slots_at, rule_at};
 ghost use Rattle.meaning.specs.Reading.{carrier_checked, rule_cells_checked, clause_cells_checked, cells_checked};
-ghost use Rattle.book.specs.Plan.{plan};
-ghost use Rattle.book.specs.Small.{SmallSlot, Slots, with_slot};
+ghost use Rattle.book.specs.Means.{slot_means, action_means, rule_means};
+ghost use Rattle.book.specs.Plan.{plan, code_in};
+ghost use Rattle.book.specs.Small.{SmallSlot, SmallRule, with_slot};
 
-use super::bytes::{byte, four, two};
+use super::bytes::four;
 use super::file::{File, Parsed};
 use super::refusal::refusal;
+use super::rule::{Action, Clause, Kind, Rule, Slot};
 use super::sets::{reads, with_member};
 use super::sides::Side;
+use super::spelling::spelt_at;
 use fault::{BookCause, FIRST_CLAUSE, Fault};
 use meaning::through;
 
 impl File<'_> {
-    /// What the slot at `at` reads, and its target where that is wanted, beside the members of `set`.
-    fn with_slot(&self, target: bool, set: u32, at: usize) -> u32
-        requires place { at < 2 ^ 16 }
-        requires small { SmallSlot self.now.bytes.now (code_from (plan self.now.layout)) at }
-        ensures { result ≡ with_slot target set (slot_at self.now.bytes.now (code_from (plan self.now.layout)) at) }
+    /// What a slot reads, and its target where that is wanted, beside the members of `set`.
+    fn with_slot(&self, target: bool, set: u32, slot: &Slot) -> u32
+        requires { SmallSlot (slot_means (code_in self.now.bytes.now self.now.layout) slot.now) }
+        ensures { result ≡ with_slot target set (slot_means (code_in self.now.bytes.now self.now.layout) slot.now) }
     {
         let set = if target {
-            with_member(set, byte(self.bytes, at))
+            with_member(set, slot.target)
         } else {
             set
         };
-        reads(set, self.code(at + 1), Side::Own)
+        reads(set, self.code(slot.value), Side::Own)
     }
 
-    /// What the slots of the action at `at` read, and their targets where they are wanted, beside the members of `set`.
-    fn gathered(&self, targets: bool, set: u32, at: usize, count: u8) -> u32
-        requires place { at < 2 ^ 15 }
-        requires small { Slots self.now.bytes.now (code_from (plan self.now.layout)) at count }
-        ensures { result ≡ meant.gathered targets set (slots_at self.now.bytes.now (code_from (plan self.now.layout)) at count) }
+    /// What the used slots of an action read, and their targets where they are wanted, beside the members of `set`.
+    fn gathered(&self, targets: bool, set: u32, action: &Action) -> u32
+        requires { All SmallSlot (action_means (code_in self.now.bytes.now self.now.layout) action.now) }
+        ensures { result ≡ meant.gathered targets set (action_means (code_in self.now.bytes.now self.now.layout) action.now) }
     {
         let mut set = set;
-        for k in 0..usize::from(count) {
-            set = self.with_slot(targets, set, at + 5 * k);
+        for slot in action.used() {
+            set = self.with_slot(targets, set, slot);
         }
         set
+    }
+
+    /// The cells that each carrier of a rule must have.
+    fn needs(&self, rule: &Rule) -> u32
+        requires { SmallRule (rule_means (code_in self.now.bytes.now self.now.layout) rule.now) }
+        ensures { result ≡ meant.needs (rule_means (code_in self.now.bytes.now self.now.layout) rule.now) }
+    {
+        let set = reads(rule.events, self.code(rule.condition), Side::Own);
+        let set = self.gathered(true, set, &rule.defaults);
+        self.gathered(rule.kind == Kind::Local, set, &rule.tasks)
     }
 
     /// Device `d`, if it carries the rule `i`, has the cells that the rule needs.
@@ -58,32 +67,18 @@ impl File<'_> {
 }
 
 impl Parsed<'_> {
-    /// The cells that each carrier of the rule `i` must have.
-    #[tactic(auto, unfolding(meaning::specs::Parsed::rule_at))]
-    fn needs(&self, i: usize) -> u32
-        requires { i < self.now.file.layout.rules }
-        ensures { result ≡ meant.needs (rule_at self.now.file.bytes.now (code_from (plan self.now.file.layout)) (rules_from (plan self.now.file.layout) + 53 * i)) }
-    {
-        let file = &self.file;
-        let at = file.layout.rule_from(i);
-        let local = byte(file.bytes, at + 6) != 1;
-        let set = reads(four(file.bytes, at + 2), file.code(at + 9), Side::Own);
-        let set = file.gathered(true, set, at + 13, byte(file.bytes, at + 7));
-        file.gathered(local, set, at + 33, byte(file.bytes, at + 8))
-    }
-
     /// Each carrier of the rule `i` has the cells that the rule needs.
     fn rule(&self, i: usize) -> Result<(), Fault>
         requires { i < self.now.file.layout.rules }
         ensures { result ≡ rule_cells_checked self.now.file.bytes.now (plan self.now.file.layout) i tt }
     {
         let file = &self.file;
-        let carriers = two(file.bytes, file.layout.rule_from(i));
-        let needed = self.needs(i);
+        let rule: Rule = spelt_at(file.bytes, file.layout.rule_from(i));
+        let needed = file.needs(&rule);
         through(
             file.layout.devices,
             (),
-            |d, ()| file.carrier(i, carriers, needed, d),
+            |d, ()| file.carrier(i, rule.carriers, needed, d),
         )
     }
 
@@ -94,9 +89,9 @@ impl Parsed<'_> {
         ensures { result ≡ clause_cells_checked self.now.file.bytes.now (plan self.now.file.layout) i tt }
     {
         let file = &self.file;
-        let at = file.layout.clause_from(i);
-        let device = usize::from(byte(file.bytes, at));
-        let needed = reads(0, file.code(at + 1), Side::Own);
+        let clause: Clause = spelt_at(file.bytes, file.layout.clause_from(i));
+        let device = usize::from(clause.device);
+        let needed = reads(0, file.code(clause.test), Side::Own);
         let cells = four(file.bytes, file.layout.mask_from(device));
         if needed & cells != needed {
             return Err(refusal(BookCause::Cell, usize::from(FIRST_CLAUSE) + i, device));

@@ -37,25 +37,37 @@ pub struct CheckedAction<'a> {
     ghost right: { RightAction book.now action.now },
 }
 
-/// A rule of a well-formed book, with its number.
+/// A rule that is right in a book.
 #[derive(Clone, Copy)]
 pub struct CheckedRule<'a> {
     pub book: &'a Book,
-    pub number: u8,
     pub rule: &'a Rule,
-    ghost formed: { WellFormed (means book.now) },
     ghost right: { RightRule book.now rule.now },
-    ghost numbered: { Numbered book.now number rule.now },
+}
+
+/// A rule of a well-formed book, with its number.
+#[derive(Clone, Copy)]
+pub struct NumberedRule<'a> {
+    pub of: CheckedRule<'a>,
+    pub number: u8,
+    ghost formed: { WellFormed (means of.book.now) },
+    ghost numbered: { Numbered of.book.now number of.rule.now },
+}
+
+/// A clause that is right in a book, on one of its devices.
+#[derive(Clone, Copy)]
+pub struct CheckedClause<'a> {
+    pub book: &'a Book,
+    pub clause: &'a Clause,
+    ghost right: { RightClause book.now clause.now },
+    ghost near: { clause.now.device < 16 },
 }
 
 /// A clause of a well-formed book, with its number.
 #[derive(Clone, Copy)]
-pub struct CheckedClause<'a> {
-    pub book: &'a Book,
+pub struct NumberedClause<'a> {
+    pub of: CheckedClause<'a>,
     pub number: u8,
-    pub clause: &'a Clause,
-    ghost right: { RightClause book.now clause.now },
-    ghost counted: { Counted book.now number clause.now },
-    ghost near: { clause.now.device < 16 },
+    ghost counted: { Counted of.book.now number of.clause.now },
     ghost early: { number < 32 },
 }

@@ -84,7 +84,7 @@ impl File<'_> {
             resources: self.layout.resources,
             receiver,
         };
-        match first_wrong(self.code(at), scope) {
+        match first_wrong(self.code(span), scope) {
             Some(inside) => Err(refusal(BookCause::Expression, from, inside)),
             None => Ok(()),
         }

@@ -52,12 +52,7 @@ impl File<'_> {
         requires slot { k < 4 }
         ensures { result ≡ repeated self.now.bytes.now at target k }
     {
-        for j in 0..k {
-            if byte(self.bytes, at + 5 * j) == target {
-                return true;
-            }
-        }
-        false
+        (0..k).any(|j| byte(self.bytes, at + 5 * j) == target)
     }
 
     /// Slot `k` of the action at `at`: used, it has a new target and its pair follows; unused, it is zero.

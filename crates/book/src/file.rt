@@ -1,15 +1,13 @@
 //! Files, by how far they are checked.
-ghost use Rattle.std.specs.Prelude.{◌≡◌, Ok};
-ghost use Rattle.meaning.specs.Bytes.{Bytes};
+ghost use Rattle.std.specs.Prelude.{◌≡◌, ◌+◌, Ok};
+ghost use Rattle.meaning.specs.Bytes.{Bytes, part};
 ghost use Rattle.meaning.specs.Layout.{code_from};
-ghost use Rattle.meaning.specs.Parsed.{code_at};
 ghost use Rattle.meaning.specs.Reading.{fields_checked, expressions_checked, cells_checked};
-ghost use Rattle.book.specs.Plan.{plan, Framed};
+ghost use Rattle.book.specs.Plan.{plan, code_in, Framed};
 
 use super::bytes::piece;
 use super::layout::Layout;
 use super::rule::Span;
-use super::spelling::spelt_at;
 
 /// A file whose header is right, and where its sections lie.
 #[derive(Clone, Copy)]
@@ -36,11 +34,11 @@ pub(crate) struct Right<'a> {
 }
 
 impl File<'_> {
-    /// The code that the pair at `at` names.
-    pub fn code(&self, at: usize) -> &[u8]
-        ensures { result.now ≡ code_at self.now.bytes.now (code_from (plan self.now.layout)) at }
+    /// The bytes of the expression in a span, or those of them that there are.
+    pub fn code(&self, span: Span) -> &[u8]
+        ensures in_file { result.now ≡ part self.now.bytes.now (code_from (plan self.now.layout) + span.from) span.size }
+        ensures in_code { result.now ≡ part (code_in self.now.bytes.now self.now.layout) span.from span.size }
     {
-        let span: Span = spelt_at(self.bytes, at);
         let from = self.layout.code_from() + usize::from(span.from);
         piece(self.bytes, from, usize::from(span.size))
     }

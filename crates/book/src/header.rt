@@ -17,6 +17,7 @@ use fault::{BookCause, Fault};
 /// The first bytes of a book file: `ABU1`.
 const FIRST: u32 = 0x4142_5531;
 
+/// The file has a header, which begins with the first bytes of a book file.
 fn first(bytes: &[u8]) -> Result<(), Fault>
     ensures { result ≡ first_checked bytes.now }
 {

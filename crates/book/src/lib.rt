@@ -30,6 +30,7 @@ mod used;
 pub use book::{Book, CELLS, CLAUSES, DEVICES, RESOURCES, RULES};
 pub use checked::{
     CheckedAction, CheckedBook, CheckedClause, CheckedCode, CheckedRule, CheckedSlot,
+    NumberedClause, NumberedRule,
 };
 pub use draft::Draft;
 pub use opcode::front;

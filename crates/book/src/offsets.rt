@@ -17,35 +17,41 @@ pub const RULE: usize = 53;
 pub const CLAUSE: usize = 5;
 
 impl Layout {
+    /// Where the masks of cells begin.
     pub fn cells_from(&self) -> usize
         ensures { result ≡ cells_from (plan self.now) }
     {
         HEADER + self.resources
     }
 
+    /// Where the starts of the cells begin.
     pub fn starts_from(&self) -> usize
         ensures { result ≡ starts_from (plan self.now) }
     {
         self.cells_from() + MASK * self.devices
     }
 
+    /// Where the rules begin.
     pub fn rules_from(&self) -> usize
         ensures { result ≡ rules_from (plan self.now) }
     {
         self.starts_from() + START * self.cells
     }
 
+    /// Where the clauses begin.
     pub fn clauses_from(&self) -> usize
         ensures { result ≡ clauses_from (plan self.now) }
     {
         self.rules_from() + RULE * self.rules
     }
 
+    /// Where the code begins, which ends the file.
     pub fn code_from(&self) -> usize
         ensures { result ≡ code_from (plan self.now) }
     {
         self.clauses_from() + CLAUSE * self.clauses
     }
+
     /// Where the mask of device `d` stands.
     pub fn mask_from(&self, d: usize) -> usize
         requires { d < 256 }

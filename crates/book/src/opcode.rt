@@ -113,10 +113,7 @@ const OPERATORS: [Operator; 12] = [
 fn operator_of(opcode: u8) -> Option<Operator>
     ensures { result ≡ operator opcode }
 {
-    if opcode < 3 || opcode > 14 {
-        return None;
-    }
-    Some(OPERATORS[opcode as usize - 3])
+    OPERATORS.get(usize::from(opcode).checked_sub(3)?).copied()
 }
 
 /// The opcode of an instruction.

@@ -8,9 +8,10 @@ use Rattle.book.specs.Plan.{plan}
 use Rattle.book.proofs.file.File.expressions.Goals as goal
 use Rattle.book.proofs.file.File.expressions.Goals.{After-through}
 
-each_rule : (c : After-through) → through (λ i _. rule_expressions_checked c.args.self.now.bytes.now (plan c.args.self.now.layout) (rules_from (plan c.args.self.now.layout) + 53 * i)) c.args.self.now.layout.rules 0 tt ≡ c.through.result
+each_rule : (c : After-through) → let file = c.args.self.now in through (λ i _. rule_expressions_checked file.bytes.now (plan file.layout) (rules_from (plan file.layout) + 53 * i)) file.layout.rules 0 tt ≡ c.through.result
 each_rule c =
-    sym (c.through.ensures (λ i _. rule_expressions_checked c.args.self.now.bytes.now (plan c.args.self.now.layout) (rules_from (plan c.args.self.now.layout) + 53 * i)) (λ i s r h p. search rules))
+    let file = c.args.self.now in
+    sym (c.through.ensures (λ i _. rule_expressions_checked file.bytes.now (plan file.layout) (rules_from (plan file.layout) + 53 * i)) (λ i s r h p. search rules))
 
 pub returns-in_err-through : goal.returns-in_err-through
 unfolding expressions_checked
@@ -20,5 +21,6 @@ returns-in_err-through c =
 pub returns : goal.returns
 unfolding expressions_checked
 returns c =
-    c.through-2.ensures (λ i _. expression_checked c.args.self.now.bytes.now (plan c.args.self.now.layout) false (clauses_from (plan c.args.self.now.layout) + 5 * i + 1)) (λ i s r h p. search rules)
+    let file = c.args.self.now in
+    c.through-2.ensures (λ i _. expression_checked file.bytes.now (plan file.layout) false (clauses_from (plan file.layout) + 5 * i + 1)) (λ i s r h p. search rules)
     ∙ sym (rw (each_rule (goal.at.returns c).After-through ∙ c.in_ok-through.was))

@@ -9,17 +9,20 @@ use Rattle.book.specs.Plan.{plan}
 use Rattle.book.proofs.file.File.fields.Goals as goal
 use Rattle.book.proofs.file.File.fields.Goals.{After-through, After-through-2, After-through-3}
 
-masks : (c : After-through) → through (mask_checked c.args.self.now.bytes.now (plan c.args.self.now.layout)) c.args.self.now.layout.devices 0 tt ≡ c.through.result
+masks : (c : After-through) → let file = c.args.self.now in through (mask_checked file.bytes.now (plan file.layout)) file.layout.devices 0 tt ≡ c.through.result
 masks c =
-    sym (c.through.ensures (mask_checked c.args.self.now.bytes.now (plan c.args.self.now.layout)) (λ d s r h p. search rules))
+    let file = c.args.self.now in
+    sym (c.through.ensures (mask_checked file.bytes.now (plan file.layout)) (λ d s r h p. search rules))
 
-each_rule : (c : After-through-2) → through (λ i. rule_checked c.args.self.now.bytes.now (plan c.args.self.now.layout) (rules_from (plan c.args.self.now.layout) + 53 * i)) c.args.self.now.layout.rules 0 0 ≡ c.through-2.result
+each_rule : (c : After-through-2) → let file = c.args.self.now in through (λ i. rule_checked file.bytes.now (plan file.layout) (rules_from (plan file.layout) + 53 * i)) file.layout.rules 0 0 ≡ c.through-2.result
 each_rule c =
-    sym (c.through-2.ensures (λ i. rule_checked c.args.self.now.bytes.now (plan c.args.self.now.layout) (rules_from (plan c.args.self.now.layout) + 53 * i)) (λ i s r h p. search rules))
+    let file = c.args.self.now in
+    sym (c.through-2.ensures (λ i. rule_checked file.bytes.now (plan file.layout) (rules_from (plan file.layout) + 53 * i)) (λ i s r h p. search rules))
 
-each_clause : (c : After-through-3) → through (λ i. clause_checked c.args.self.now.bytes.now (plan c.args.self.now.layout) (clauses_from (plan c.args.self.now.layout) + 5 * i)) c.args.self.now.layout.clauses 0 c.in_ok-next.next ≡ c.through-3.result
+each_clause : (c : After-through-3) → let file = c.args.self.now in through (λ i. clause_checked file.bytes.now (plan file.layout) (clauses_from (plan file.layout) + 5 * i)) file.layout.clauses 0 c.in_ok-next.next ≡ c.through-3.result
 each_clause c =
-    sym (c.through-3.ensures (λ i. clause_checked c.args.self.now.bytes.now (plan c.args.self.now.layout) (clauses_from (plan c.args.self.now.layout) + 5 * i)) (λ i s r h p. search rules))
+    let file = c.args.self.now in
+    sym (c.through-3.ensures (λ i. clause_checked file.bytes.now (plan file.layout) (clauses_from (plan file.layout) + 5 * i)) (λ i s r h p. search rules))
 
 pub returns-in_err-through : goal.returns-in_err-through
 unfolding fields_checked

@@ -7,9 +7,10 @@ use Rattle.book.specs.Plan.{plan}
 use Rattle.book.proofs.file.Parsed.cells.Goals as goal
 use Rattle.book.proofs.file.Parsed.cells.Goals.{After-through}
 
-each_rule : (c : After-through) → through (rule_cells_checked c.args.self.now.file.bytes.now (plan c.args.self.now.file.layout)) c.args.self.now.file.layout.rules 0 tt ≡ c.through.result
+each_rule : (c : After-through) → let file = c.args.self.now.file in through (rule_cells_checked file.bytes.now (plan file.layout)) file.layout.rules 0 tt ≡ c.through.result
 each_rule c =
-    sym (c.through.ensures (rule_cells_checked c.args.self.now.file.bytes.now (plan c.args.self.now.file.layout)) (λ i s r h p. search rules))
+    let file = c.args.self.now.file in
+    sym (c.through.ensures (rule_cells_checked file.bytes.now (plan file.layout)) (λ i s r h p. search rules))
 
 pub returns-in_err-through : goal.returns-in_err-through
 unfolding cells_checked
@@ -19,5 +20,6 @@ returns-in_err-through c =
 pub returns : goal.returns
 unfolding cells_checked
 returns c =
-    c.through-2.ensures (clause_cells_checked c.args.self.now.file.bytes.now (plan c.args.self.now.file.layout)) (λ i s r h p. search rules)
+    let file = c.args.self.now.file in
+    c.through-2.ensures (clause_cells_checked file.bytes.now (plan file.layout)) (λ i s r h p. search rules)
     ∙ sym (rw (each_rule (goal.at.returns c).After-through ∙ c.in_ok-through.was))
