@@ -16,7 +16,10 @@ use super::flow_kind::FlowKind;
 use super::gather::read_for;
 use super::landing::sets_of;
 use super::row::Row;
-use book::{CheckedAction, CheckedBook, CheckedClause, CheckedRule, Part, RESOURCES, Side};
+use book::{
+    CheckedAction, CheckedBook, CheckedClause, CheckedRule, NumberedClause, NumberedRule, Part,
+    RESOURCES, Side,
+};
 use fault::FIRST_CLAUSE;
 use levels::Scale;
 use std::array;
@@ -50,13 +53,13 @@ impl Case<'_> {
 }
 
 /// Puts the flows of a part of a rule, kind by kind.
-fn put_part(scale: &Scale, buffer: &mut FlowBuffer<'_>, rule: &CheckedRule<'_>, part: Part)
+fn put_part(scale: &Scale, buffer: &mut FlowBuffer<'_>, rule: &NumberedRule<'_>, part: Part)
     requires { buffer.old.at < 2 ^ 37 }
-    ensures put { PutInto buffer.old buffer.new (filter (forbidden (scaled scale.now) (means rule.now.book.now)) (of_part (means rule.now.book.now) rule.now.number (parts.number part))) }
+    ensures put { PutInto buffer.old buffer.new (filter (forbidden (scaled scale.now) (means rule.now.of.book.now)) (of_part (means rule.now.of.book.now) rule.now.number (parts.number part))) }
     ensures bound { buffer.new.at ≤ buffer.old.at + 20480 }
 {
     let case = Case {
-        book: rule.book,
+        book: rule.of.book,
         scale,
     };
     let sets = sets_of(rule, part);
@@ -76,7 +79,7 @@ fn put_part(scale: &Scale, buffer: &mut FlowBuffer<'_>, rule: &CheckedRule<'_>, 
         kind: FlowKind::Value,
         ..row
     };
-    case.put_row(buffer, row, targets, &values(&rule.action(part)));
+    case.put_row(buffer, row, targets, &values(&rule.of.action(part)));
     let row = Row {
         kind: FlowKind::Watched,
         ..row
@@ -86,9 +89,9 @@ fn put_part(scale: &Scale, buffer: &mut FlowBuffer<'_>, rule: &CheckedRule<'_>, 
 }
 
 /// Puts the flows of a rule.
-fn put_rule(scale: &Scale, buffer: &mut FlowBuffer<'_>, rule: &CheckedRule<'_>)
+fn put_rule(scale: &Scale, buffer: &mut FlowBuffer<'_>, rule: &NumberedRule<'_>)
     requires { buffer.old.at < 2 ^ 36 }
-    ensures put { PutInto buffer.old buffer.new (filter (forbidden (scaled scale.now) (means rule.now.book.now)) (of_rule (means rule.now.book.now) rule.now.number)) }
+    ensures put { PutInto buffer.old buffer.new (filter (forbidden (scaled scale.now) (means rule.now.of.book.now)) (of_rule (means rule.now.of.book.now) rule.now.number)) }
     ensures bound { buffer.new.at ≤ buffer.old.at + 40960 }
 {
     put_part(scale, buffer, rule, Part::Default);
@@ -102,26 +105,23 @@ fn put_rules(scale: &Scale, buffer: &mut FlowBuffer<'_>, book: &CheckedBook<'_>)
 {
     let book = book.book;
     for (number, rule) in book.used_rules().iter().enumerate() {
-        let rule = CheckedRule {
-            book,
-            number: number as u8,
-            rule,
-        };
-        put_rule(scale, buffer, &rule);
+        let of = CheckedRule { book, rule };
+        let number = number as u8;
+        put_rule(scale, buffer, &NumberedRule { of, number });
     }
 }
 
 /// Puts the flows of a clause.
-fn put_clause(scale: &Scale, buffer: &mut FlowBuffer<'_>, clause: &CheckedClause<'_>)
+fn put_clause(scale: &Scale, buffer: &mut FlowBuffer<'_>, clause: &NumberedClause<'_>)
     requires { buffer.old.at < 2 ^ 36 }
-    ensures put { PutInto buffer.old buffer.new (filter (forbidden (scaled scale.now) (means clause.now.book.now)) (of_clause (means clause.now.book.now) clause.now.number)) }
+    ensures put { PutInto buffer.old buffer.new (filter (forbidden (scaled scale.now) (means clause.now.of.book.now)) (of_clause (means clause.now.of.book.now) clause.now.number)) }
     ensures bound { buffer.new.at ≤ buffer.old.at + 5120 }
 {
     let case = Case {
-        book: clause.book,
+        book: clause.of.book,
         scale,
     };
-    let set = clause.test().reads(0, Side::Own);
+    let set = clause.of.test().reads(0, Side::Own);
     let row = Row {
         rule: FIRST_CLAUSE + clause.number,
         part: 0,
@@ -137,12 +137,9 @@ fn put_clauses(scale: &Scale, buffer: &mut FlowBuffer<'_>, book: &CheckedBook<'_
 {
     let book = book.book;
     for (number, clause) in book.used_clauses().iter().enumerate() {
-        let clause = CheckedClause {
-            book,
-            number: number as u8,
-            clause,
-        };
-        put_clause(scale, buffer, &clause);
+        let of = CheckedClause { book, clause };
+        let number = number as u8;
+        put_clause(scale, buffer, &NumberedClause { of, number });
     }
 }
 

@@ -1,5 +1,5 @@
 -- Each clause that watches the part adds what it reads.
-use Rattle.std.proofs.Common.{◌≡◌, ℕ, Bool, true, false, cond, not, ◌&&◌, eqb, List, map, get_or, sym, refl, ap, ◌∙◌, arith}
+use Rattle.std.proofs.Common.{◌≡◌, ℕ, Bool, true, false, cond, not, ◌&&◌, eqb, List, map, get_or, sym, refl, ap, ◌∙◌}
 use lib.Bits.{bit_and}
 use Rattle.std.proofs.lemmas.Bool.{and_from, and_left, and_right, not_from_true, not_from_false, eq-eqb, ne_eqb, cond-true, cond-false}
 use Rattle.book.specs.declared.rule.Clause.{Clause}
@@ -9,7 +9,7 @@ use Rattle.meaning.specs.Expression.{reads, decoded}
 use Rattle.meaning.specs.Flow as meant
 use Rattle.book.specs.Parts.{number}
 use Rattle.verdict.proofs.Folds.{Folds, goes_on, ends}
-use Rattle.book.proofs.Numbering.{clause_early, clause_at}
+use Rattle.book.proofs.Numbering.{clause_at}
 use Rattle.verdict.proofs.landing.watched.Goals as goal
 use Rattle.verdict.proofs.landing.watched.Goals.{then-reads-set-ne0+then-lands, else-reads-set-ne0, else-reads-set-ne0-via-then-reads-set-ne0+else-lands, else-reads-set-ne0-via-else-reads-set-ne0}
 
@@ -31,25 +31,20 @@ module _ (x y : ℕ) (t : Bool) (n m all : ℕ) (e : x ≡ y) where
   elsewhere : false ≡ t → all ≡ m → all ≡ cond (not (eqb y 0) && t) n m
   elsewhere not-here is = is ∙ sym (cond-false _ n m (and_right _ t (sym not-here)))
 
-pub overflow_cast-clause : goal.overflow_cast-clause
-overflow_cast-clause c =
-    record { fits = omega (arith, clause_early c.args.rule.now.book.now c.args.rule.now.formed c.loop-number.number _ c.used_clauses-clause-items.ensures c.loop-number-test.true) }
-
 pub invariant_of-clause : goal.invariant_of-clause
 invariant_of-clause c =
-    let rule = c.args.rule.now in
-    let at = clause_at rule.book.now rule.formed c.loop-number.number _ c.used_clauses-clause-items.ensures _ c.loop-number-test.true in
-    record { right = at.0; counted = at.1; near = at.2; early = clause_early rule.book.now rule.formed c.loop-number.number _ c.used_clauses-clause-items.ensures c.loop-number-test.true }
+    let at = clause_at c.args.rule.now.of.book.now c.args.rule.now.formed c.loop-clause.clause-index _ c.used_clauses-clause-items.ensures _ c.loop-clause-test.true in
+    record { right = at.0; near = at.2 }
 
-pub loop-number-preserved : goal.loop-number-preserved
-loop-number-preserved c =
-    let of = c.args.rule.now in
+pub loop-clause-preserved : goal.loop-clause-preserved
+loop-clause-preserved c =
+    let of = c.args.rule.now.of in
     let b = means of.book.now in
     let code = code_of of.book.now in
     let r = rule_means code of.rule.now in
     let p = number c.args.part in
-    let m = c.loop-number.all in
-    let x = clause_means code (get_or c.used_clauses-clause-items.result.now c.loop-number.number no_clause) in
+    let m = c.loop-clause.all in
+    let x = clause_means code (get_or c.used_clauses-clause-items.result.now c.loop-clause.clause-index no_clause) in
     let common = bit_and (reads 0 x.test) (meant.set_by 0 (meant.slots_of r p)) in
     let same : bit_and c.reads.result c.args.set ≡ common = λ i. bit_and ((c.reads.ensures ∙ ap (λ bs. reads 0 (decoded bs)) c.test-test.ensures) i) (c.requires i) in
     let there = meant.lands b r p x.device in
@@ -60,14 +55,14 @@ loop-number-preserved c =
         | else-reads-set-ne0-via-else-reads-set-ne0 v ↦ apart _ common there _ m _ same v.if-reads-set-ne0.false w.all-is
       ]
     ] in
-    goes_on (folds b r p code) c.used_clauses-clause-items.result.now c.loop-number.number _ m _ _ c.loop-number-test.true added c.loop-number.invariant
+    goes_on (folds b r p code) c.used_clauses-clause-items.result.now c.loop-clause.clause-index _ m _ _ c.loop-clause-test.true added c.loop-clause.invariant
 
 pub returns : goal.returns
 returns c =
-    let of = c.args.rule.now in
+    let of = c.args.rule.now.of in
     let b = means of.book.now in
     let code = code_of of.book.now in
     let r = rule_means code of.rule.now in
     let p = number c.args.part in
-    ends (folds b r p code) c.used_clauses-clause-items.result.now c.loop-number.number _ _ c.loop-number-test.false c.loop-number.invariant
+    ends (folds b r p code) c.used_clauses-clause-items.result.now c.loop-clause.clause-index _ _ c.loop-clause-test.false c.loop-clause.invariant
     ∙ ap (λ xs. meant.watched b r p 0 (map (clause_means code) xs)) c.used_clauses-clause-items.ensures

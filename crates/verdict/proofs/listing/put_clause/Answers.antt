@@ -13,6 +13,6 @@ overflow_add-row c = record { fits = omega (arith, c.args.clause.now.early) }
 pub returns-clause-put : goal.returns-clause-put
 returns-clause-put c =
     let clause = c.args.clause.now in
-    let b = means clause.book.now in
+    let b = means clause.of.book.now in
     let read = c.reads-set.ensures ∙ ap (λ bs. reads 0 (decoded bs)) c.test.ensures in
-    put_same (clause_row (scaled c.args.scale.now) b clause.number (clause_means (code_of clause.book.now) clause.clause.now) c.reads-set.result clause.counted.inside clause.counted.is clause.right.few read) c.put_row.ensures.put
+    put_same (clause_row (scaled c.args.scale.now) b clause.number (clause_means (code_of clause.of.book.now) clause.of.clause.now) c.reads-set.result clause.counted.inside clause.counted.is clause.of.right.few read) c.put_row.ensures.put

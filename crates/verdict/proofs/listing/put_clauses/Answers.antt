@@ -12,14 +12,14 @@ use Rattle.verdict.proofs.listing.put_clauses.Goals as goal
 pub loop-number-init : goal.loop-number-init
 loop-number-init c = (put_none _, omega arith)
 
-pub overflow_cast-clause : goal.overflow_cast-clause
-overflow_cast-clause c =
+pub overflow_cast-number : goal.overflow_cast-number
+overflow_cast-number c =
     record { fits = omega (arith, clause_early c.args.book.now.book.now c.args.book.now.formed c.loop-number.number _ c.used_clauses-clause-items.ensures c.loop-number-test.true) }
 
-pub invariant_of-clause : goal.invariant_of-clause
-invariant_of-clause c =
+pub invariant_of-of : goal.invariant_of-of
+invariant_of-of c =
     let at = clause_at c.args.book.now.book.now c.args.book.now.formed c.loop-number.number _ c.used_clauses-clause-items.ensures _ c.loop-number-test.true in
-    record { right = at.0; counted = at.1; near = at.2; early = clause_early c.args.book.now.book.now c.args.book.now.formed c.loop-number.number _ c.used_clauses-clause-items.ensures c.loop-number-test.true }
+    record { right = at.0; near = at.2 }
 
 pub put_clause-requires : goal.put_clause-requires
 put_clause-requires c =

@@ -12,14 +12,14 @@ use Rattle.verdict.proofs.listing.put_rules.Goals as goal
 pub loop-number-init : goal.loop-number-init
 loop-number-init c = (put_none _, omega arith)
 
-pub overflow_cast-rule : goal.overflow_cast-rule
-overflow_cast-rule c =
+pub overflow_cast-number : goal.overflow_cast-number
+overflow_cast-number c =
     record { fits = omega (arith, rule_early c.args.book.now.book.now c.args.book.now.formed c.loop-number.number _ c.used_rules-rule-items.ensures c.loop-number-test.true) }
 
-pub invariant_of-rule : goal.invariant_of-rule
-invariant_of-rule c =
+pub invariant_of-of : goal.invariant_of-of
+invariant_of-of c =
     let at = rule_at c.args.book.now.book.now c.args.book.now.formed c.loop-number.number _ c.used_rules-rule-items.ensures _ c.loop-number-test.true in
-    record { formed = c.args.book.now.formed; right = at.0; numbered = at.1 }
+    record { right = at.0 }
 
 pub put_rule-requires : goal.put_rule-requires
 put_rule-requires c =
