@@ -40,6 +40,6 @@ some_used b i r p used at is =
     ap (λ ss. leb 1 (length ss)) slots ∙ ap (leb 1) (sym (same_length (slot_means (code_of b)) (take a.count a.slots) used is)) ∙ some_test (length used)
 
 -- the lane of a part is that of its route
-pub routed_lane : (M : Meets) (b : meant.Book) (i : ℕ) (x : Route) (p : Part) → Routed M b i x → (lane x p).number ≡ lane_of M b i (number p)
+pub routed_lane : (M : Meets) (b : meant.Book) (i : ℕ) (x : Route) (p : Part) → Routed M b i x → lane x p ≡ lane_of M b i (number p)
 routed_lane M b i x Default routed = routed.0
 routed_lane M b i x Task routed = routed.1

@@ -31,11 +31,8 @@ impl PlannedBook<'_> {
     {
         let reads = &self.plan.reads;
         for (number, clause) in self.book.used_clauses().iter().enumerate() {
-            let clause = CheckedClause {
-                book: self.book,
-                number: number as u8,
-                clause,
-            };
+            let book = self.book;
+            let clause = CheckedClause { book, clause };
             if is_broken(preview, &clause, reads[number], device, set) {
                 return Some(number as u32);
             }

@@ -8,7 +8,7 @@ ghost use Rattle.discovery.specs.Plans.{Planned};
 
 use super::firing::Firing;
 use super::planned::PlannedBook;
-use book::CheckedRule;
+use book::{CheckedRule, NumberedRule};
 use hosts::Host;
 use lanes::Lanes;
 
@@ -19,14 +19,14 @@ impl PlannedBook<'_> {
     {
         let routes = &self.plan.routes;
         for (number, rule) in self.book.used_rules().iter().enumerate() {
-            let rule = CheckedRule {
-                book: self.book,
-                number: number as u8,
-                rule,
-            };
+            let book = self.book;
+            let of = CheckedRule { book, rule };
             let firing = Firing {
                 host,
-                rule,
+                rule: NumberedRule {
+                    of,
+                    number: number as u8,
+                },
                 route: routes[number],
                 device,
             };

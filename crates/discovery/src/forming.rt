@@ -18,24 +18,11 @@ ghost use Rattle.discovery.specs.Plans.{Routed, lane};
 
 use super::firing::Firing;
 use super::members::fires;
-use super::plan::Route;
-use book::{CheckedAction, CheckedSlot, Kind, Part, Rule, SLOTS};
+use book::{CheckedAction, CheckedRule, CheckedSlot, Kind, Part, Rule, SLOTS};
 use evaluation::{Changes, Evaluator, Preview};
 use hosts::Host;
 use lanes::{LaneNumber, Lanes, Update};
 use verdict::lands;
-
-impl Route {
-    /// The lane of a part.
-    pub fn lane(&self, part: Part) -> LaneNumber
-        ensures { result ≡ lane self.now part }
-    {
-        match part {
-            Part::Default => self.default_lane,
-            Part::Task => self.task_lane,
-        }
-    }
-}
 
 /// Whether a device carries a rule.
 fn carries(rule: &Rule, device: u8) -> bool
@@ -46,6 +33,17 @@ fn carries(rule: &Rule, device: u8) -> bool
 }
 
 impl<H: Host> Firing<'_, '_, H> {
+    /// The lane of a part.
+    fn lane(&self, part: Part) -> LaneNumber
+        ensures { result.number ≡ lane self.now.route part }
+    {
+        let number = match part {
+            Part::Default => self.route.default_lane,
+            Part::Task => self.route.task_lane,
+        };
+        LaneNumber { number }
+    }
+
     /// The values of an action's assignments, for a receiver.
     fn values(&self, action: &CheckedAction<'_>, receiver: u8) -> [i32; SLOTS]
         ensures { take (length (action_means (code_of action.now.book.now) action.now.action.now)) result ≡ evaluated (H.Host.table self.now.host.now) self.now.device receiver (action_means (code_of action.now.book.now) action.now.action.now) }
@@ -72,9 +70,9 @@ impl<H: Host> Firing<'_, '_, H> {
 
     /// The update that a part of the rule forms, for a receiver.
     fn update(&self, part: Part, receiver: u8) -> Update
-        ensures { update_means result ≡ meant.form (means self.now.rule.book.now) (H.Host.table self.now.host.now) self.now.device (place self.now.rule.number (number part) receiver) }
+        ensures { update_means result ≡ meant.form (means self.now.rule.of.book.now) (H.Host.table self.now.host.now) self.now.device (place self.now.rule.number (number part) receiver) }
     {
-        let action = self.rule.action(part);
+        let action = self.rule.of.action(part);
         Update {
             device: receiver,
             rule: self.rule.number,
@@ -86,23 +84,23 @@ impl<H: Host> Firing<'_, '_, H> {
 
     /// A part of the rule is evaluated, and its update goes to the end of its lane.
     fn form(&self, lanes: &mut Lanes, part: Part, receiver: u8)
-        ensures { (M : Meets) → Routed M (means self.now.rule.book.now) self.now.rule.number self.now.route → view lanes.new ≡ settled M (means self.now.rule.book.now) (view lanes.old) (meant.form (means self.now.rule.book.now) (H.Host.table self.now.host.now) self.now.device (place self.now.rule.number (number part) receiver) ∷ []) }
+        ensures { (M : Meets) → Routed M (means self.now.rule.of.book.now) self.now.rule.number self.now.route → view lanes.new ≡ settled M (means self.now.rule.of.book.now) (view lanes.old) (meant.form (means self.now.rule.of.book.now) (H.Host.table self.now.host.now) self.now.device (place self.now.rule.number (number part) receiver) ∷ []) }
     {
-        lanes.arrive(self.route.lane(part), self.update(part, receiver));
+        lanes.arrive(self.lane(part), self.update(part, receiver));
     }
 
     /// What the default part forms.
     fn by_default(&self, lanes: &mut Lanes)
-        ensures { (M : Meets) → Routed M (means self.now.rule.book.now) self.now.rule.number self.now.route → view lanes.new ≡ settled M (means self.now.rule.book.now) (view lanes.old) (by_default (means self.now.rule.book.now) (H.Host.table self.now.host.now) self.now.rule.number self.now.device) }
+        ensures { (M : Meets) → Routed M (means self.now.rule.of.book.now) self.now.rule.number self.now.route → view lanes.new ≡ settled M (means self.now.rule.of.book.now) (view lanes.old) (by_default (means self.now.rule.of.book.now) (H.Host.table self.now.host.now) self.now.rule.number self.now.device) }
     {
-        if !self.rule.rule.defaults.used().is_empty() {
+        if !self.rule.of.rule.defaults.used().is_empty() {
             self.form(lanes, Part::Default, self.device);
         }
     }
 
     /// What the task forms for a receiver: an update, where the condition holds there.
     fn by_task_at(&self, lanes: &mut Lanes, receiver: u8)
-        ensures { (M : Meets) → Routed M (means self.now.rule.book.now) self.now.rule.number self.now.route → view lanes.new ≡ settled M (means self.now.rule.book.now) (view lanes.old) (by_task_at (means self.now.rule.book.now) (H.Host.table self.now.host.now) self.now.rule.number self.now.device receiver) }
+        ensures { (M : Meets) → Routed M (means self.now.rule.of.book.now) self.now.rule.number self.now.route → view lanes.new ≡ settled M (means self.now.rule.of.book.now) (view lanes.old) (by_task_at (means self.now.rule.of.book.now) (H.Host.table self.now.host.now) self.now.rule.number self.now.device receiver) }
     {
         let evaluator = Evaluator {
             preview: Preview {
@@ -112,7 +110,7 @@ impl<H: Host> Firing<'_, '_, H> {
             own: u32::from(self.device),
             receiver: u32::from(receiver),
         };
-        if evaluator.holds(self.rule.condition().bytes) {
+        if evaluator.holds(self.rule.of.condition().bytes) {
             self.form(lanes, Part::Task, receiver);
         }
     }
@@ -120,15 +118,16 @@ impl<H: Host> Firing<'_, '_, H> {
     /// Whether a remote task goes to a receiver: another device, where it can land.
     fn reaches(&self, receiver: u8) -> bool
         requires { receiver < 16 }
-        ensures { result ≡ (not (receiver == self.now.device) && flow.lands (means self.now.rule.book.now) (rule_means (code_of self.now.rule.book.now) self.now.rule.rule.now) 1 receiver) }
+        ensures { result ≡ (not (receiver == self.now.device) && flow.lands (means self.now.rule.of.book.now) (rule_means (code_of self.now.rule.of.book.now) self.now.rule.of.rule.now) 1 receiver) }
     {
-        receiver != self.device && lands(&self.rule, Part::Task, self.route.received, receiver)
+        let CheckedRule { book, rule } = self.rule.of;
+        receiver != self.device && lands(book, rule, Part::Task, self.route.received, receiver)
     }
 
     /// What a remote task forms for a receiver, if that is another device where the task can land.
     fn by_task_for(&self, lanes: &mut Lanes, receiver: u8)
         requires { receiver < 16 }
-        ensures { (M : Meets) → Routed M (means self.now.rule.book.now) self.now.rule.number self.now.route → view lanes.new ≡ settled M (means self.now.rule.book.now) (view lanes.old) (by_task_for (means self.now.rule.book.now) (H.Host.table self.now.host.now) self.now.rule.number self.now.device receiver) }
+        ensures { (M : Meets) → Routed M (means self.now.rule.of.book.now) self.now.rule.number self.now.route → view lanes.new ≡ settled M (means self.now.rule.of.book.now) (view lanes.old) (by_task_for (means self.now.rule.of.book.now) (H.Host.table self.now.host.now) self.now.rule.number self.now.device receiver) }
     {
         if self.reaches(receiver) {
             self.by_task_at(lanes, receiver);
@@ -137,21 +136,21 @@ impl<H: Host> Firing<'_, '_, H> {
 
     /// What a remote task forms: for every other device, ascending.
     fn by_remote_task(&self, lanes: &mut Lanes)
-        ensures { (M : Meets) → Routed M (means self.now.rule.book.now) self.now.rule.number self.now.route → view lanes.new ≡ settled M (means self.now.rule.book.now) (view lanes.old) (flat_map (by_task_for (means self.now.rule.book.now) (H.Host.table self.now.host.now) self.now.rule.number self.now.device) (range_with_len 0 (devices (means self.now.rule.book.now)))) }
+        ensures { (M : Meets) → Routed M (means self.now.rule.of.book.now) self.now.rule.number self.now.route → view lanes.new ≡ settled M (means self.now.rule.of.book.now) (view lanes.old) (flat_map (by_task_for (means self.now.rule.of.book.now) (H.Host.table self.now.host.now) self.now.rule.number self.now.device) (range_with_len 0 (devices (means self.now.rule.of.book.now)))) }
     {
-        for receiver in 0..self.rule.book.used_cells().len() {
+        for receiver in 0..self.rule.of.book.used_cells().len() {
             self.by_task_for(lanes, receiver as u8);
         }
     }
 
     /// What the task forms.
     fn by_task(&self, lanes: &mut Lanes)
-        ensures { (M : Meets) → Routed M (means self.now.rule.book.now) self.now.rule.number self.now.route → view lanes.new ≡ settled M (means self.now.rule.book.now) (view lanes.old) (by_task (means self.now.rule.book.now) (H.Host.table self.now.host.now) self.now.rule.number self.now.device) }
+        ensures { (M : Meets) → Routed M (means self.now.rule.of.book.now) self.now.rule.number self.now.route → view lanes.new ≡ settled M (means self.now.rule.of.book.now) (view lanes.old) (by_task (means self.now.rule.of.book.now) (H.Host.table self.now.host.now) self.now.rule.number self.now.device) }
     {
-        if self.rule.rule.tasks.used().is_empty() {
+        if self.rule.of.rule.tasks.used().is_empty() {
             return;
         }
-        match self.rule.rule.kind {
+        match self.rule.of.rule.kind {
             Kind::Local => self.by_task_at(lanes, self.device),
             Kind::Remote => self.by_remote_task(lanes),
         }
@@ -159,14 +158,14 @@ impl<H: Host> Firing<'_, '_, H> {
 
     /// Whether a change fires the rule: the device carries it, and an event of it changed.
     fn is_fired(&self, changed: u32) -> bool
-        ensures { result ≡ (has self.now.rule.rule.now.carriers self.now.device && share self.now.rule.rule.now.events changed) }
+        ensures { result ≡ (has self.now.rule.of.rule.now.carriers self.now.device && share self.now.rule.of.rule.now.events changed) }
     {
-        carries(self.rule.rule, self.device) && fires(self.rule.rule.events, changed)
+        carries(self.rule.of.rule, self.device) && fires(self.rule.of.rule.events, changed)
     }
 
     /// What the rule forms at a change, if it is fired.
     pub fn by_rule(&self, lanes: &mut Lanes, changed: u32)
-        ensures { (M : Meets) → Routed M (means self.now.rule.book.now) self.now.rule.number self.now.route → view lanes.new ≡ settled M (means self.now.rule.book.now) (view lanes.old) (by_rule (means self.now.rule.book.now) (H.Host.table self.now.host.now) self.now.device changed self.now.rule.number) }
+        ensures { (M : Meets) → Routed M (means self.now.rule.of.book.now) self.now.rule.number self.now.route → view lanes.new ≡ settled M (means self.now.rule.of.book.now) (view lanes.old) (by_rule (means self.now.rule.of.book.now) (H.Host.table self.now.host.now) self.now.device changed self.now.rule.number) }
     {
         if self.is_fired(changed) {
             self.by_default(lanes);

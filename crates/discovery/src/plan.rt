@@ -1,12 +1,11 @@
 //! What discovery has to know of each rule and clause, found once and not at each input.
 use book::{CLAUSES, RULES};
-use lanes::LaneNumber;
 
 /// Where the updates of a rule go: the lanes of its two parts, and the cells that a receiver of its task must have.
 #[derive(Clone, Copy)]
 pub struct Route {
-    pub default_lane: LaneNumber,
-    pub task_lane: LaneNumber,
+    pub default_lane: u32,
+    pub task_lane: u32,
     pub received: u32,
 }
 

@@ -5,22 +5,17 @@ ghost use Rattle.runs.specs.Clauses.{clause_at};
 ghost use Rattle.runs.specs.Update.{level_of};
 ghost use Rattle.levels.specs.Scales.{scaled_meets};
 ghost use Rattle.book.specs.Means.{code_of, action_means, rule_means, means};
-ghost use Rattle.discovery.specs.declared.plan.Route as declared;
-ghost use Rattle.discovery.specs.Plans.{RouteOf, Routed, Ready, Planned};
+ghost use Rattle.discovery.specs.Plans.{RouteOf, Routed, Laned, no_route, Ready, Planned};
 
 use super::accepted::AcceptedBook;
 use super::meeting::meet_of;
 use super::plan::{Plan, Route};
 use book::{CLAUSES, CheckedAction, CheckedBook, CheckedClause, CheckedRule, Part, RULES, Side};
-use lanes::LaneNumber;
 use verdict::{received, targets};
 
-/// The lane of an action without targets.
-const FIRST_LANE: LaneNumber = LaneNumber { number: 0 };
-
 const NO_ROUTE: Route = Route {
-    default_lane: FIRST_LANE,
-    task_lane: FIRST_LANE,
+    default_lane: 0,
+    task_lane: 0,
     received: 0,
 };
 
@@ -31,11 +26,7 @@ fn clause_reads(book: &CheckedBook<'_>) -> [u32; CLAUSES]
     let book = book.book;
     let mut sets = [0; CLAUSES];
     for (number, clause) in book.used_clauses().iter().enumerate() {
-        let clause = CheckedClause {
-            book,
-            number: number as u8,
-            clause,
-        };
+        let clause = CheckedClause { book, clause };
         sets[number] = clause.test().reads(0, Side::Own);
     }
     sets
@@ -43,23 +34,23 @@ fn clause_reads(book: &CheckedBook<'_>) -> [u32; CLAUSES]
 
 impl AcceptedBook<'_> {
     /// The lane of an action: the meet of its targets' levels, or 0 where it has none.
-    fn lane(&self, action: &CheckedAction<'_>) -> LaneNumber
+    fn lane(&self, action: &CheckedAction<'_>) -> u32
         requires { action.now.book.now ≡ self.now.book.now }
-        ensures { result.number ≡ level_of (scaled_meets self.now.scale.now) (means self.now.book.now) (action_means (code_of self.now.book.now) action.now.action.now) }
+        ensures small { result < 16 }
+        ensures level { result ≡ level_of (scaled_meets self.now.scale.now) (means self.now.book.now) (action_means (code_of self.now.book.now) action.now.action.now) }
     {
         let set = targets(0, action);
         if set == 0 {
-            return FIRST_LANE;
+            return 0;
         }
-        LaneNumber {
-            number: meet_of(self.book, self.scale, set),
-        }
+        meet_of(self.book, self.scale, set)
     }
 
     /// The route of a rule.
     fn route(&self, rule: &CheckedRule<'_>) -> Route
         requires { rule.now.book.now ≡ self.now.book.now }
-        ensures { RouteOf (scaled_meets self.now.scale.now) (means self.now.book.now) (rule_means (code_of self.now.book.now) rule.now.rule.now) result }
+        ensures lanes { Laned result }
+        ensures route { RouteOf (scaled_meets self.now.scale.now) (means self.now.book.now) (rule_means (code_of self.now.book.now) rule.now.rule.now) result }
     {
         Route {
             default_lane: self.lane(&rule.action(Part::Default)),
@@ -70,16 +61,12 @@ impl AcceptedBook<'_> {
 
     /// The routes of all rules.
     fn routes(&self) -> [Route; RULES]
-        ensures { (i : ℕ) (d : declared.Route) → i < length (means self.now.book.now).rules → Routed (scaled_meets self.now.scale.now) (means self.now.book.now) i (slice_index_or result i d) }
+        ensures { (i : ℕ) → i < length (means self.now.book.now).rules → Routed (scaled_meets self.now.scale.now) (means self.now.book.now) i (slice_index_or result i no_route) × Laned (slice_index_or result i no_route) }
     {
         let mut routes = [NO_ROUTE; RULES];
         for (number, rule) in self.book.used_rules().iter().enumerate() {
-            let rule = CheckedRule {
-                book: self.book,
-                number: number as u8,
-                rule,
-            };
-            routes[number] = self.route(&rule);
+            let book = self.book;
+            routes[number] = self.route(&CheckedRule { book, rule });
         }
         routes
     }

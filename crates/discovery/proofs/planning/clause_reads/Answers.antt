@@ -7,15 +7,11 @@ use Rattle.book.proofs.Numbering as numbering
 use Rattle.discovery.proofs.Filling.{filled_more}
 use Rattle.discovery.proofs.planning.clause_reads.Goals as goal
 
-pub overflow_cast-clause : goal.overflow_cast-clause
-overflow_cast-clause c =
-    record { fits = omega (arith, numbering.clause_early c.args.book.now.book.now c.args.book.now.formed c.loop-number.number _ c.used_clauses-clause-items.ensures c.loop-number-test.true) }
-
 pub invariant_of-clause : goal.invariant_of-clause
 invariant_of-clause c =
     let book = c.args.book.now in
     let at = numbering.clause_at book.book.now book.formed c.loop-number.number _ c.used_clauses-clause-items.ensures _ c.loop-number-test.true in
-    record { right = at.0; counted = at.1; near = at.2; early = numbering.clause_early book.book.now book.formed c.loop-number.number _ c.used_clauses-clause-items.ensures c.loop-number-test.true }
+    record { right = at.0; near = at.2 }
 
 pub bounds-sets-number : goal.bounds-sets-number
 bounds-sets-number c =

@@ -23,7 +23,7 @@ returns-then-set-eq0 c =
     let of = c.args.self.now in
     let ss = action_means (code_of of.book.now) c.args.action.now.action.now in
     let set = c.targets-set.ensures ∙ ap (λ b. set_by 0 (action_means (code_of b) c.args.action.now.action.now)) c.requires in
-    sym (ap (level_of (scaled_meets of.scale.now) (means of.book.now)) (no_slots ss (sym set ∙ c.if-set-eq0.true)))
+    record { small = omega arith; level = sym (ap (level_of (scaled_meets of.scale.now) (means of.book.now)) (no_slots ss (sym set ∙ c.if-set-eq0.true))) }
 
 pub meet_of-requires : goal.meet_of-requires
 meet_of-requires c =
@@ -51,8 +51,5 @@ met c =
       omega (arith, of.accepted.lawful.few, lane_inside o (means b) of.accepted.lawful ss some c.meet_of.result greatest),
     )
 
-pub invariant_of-result-2 : goal.invariant_of-result-2
-invariant_of-result-2 c = record { small = (met c).1 }
-
 pub returns : goal.returns
-returns c = (met (goal.at.returns c).After-meet_of).0
+returns c = let m = met (goal.at.returns c).After-meet_of in record { small = m.1; level = m.0 }

@@ -17,11 +17,11 @@ overflow_cast-result g c =
 pub returns : goal.returns
 returns g c =
     let rule = c.args.self.now.rule in
-    let b = rule.book.now in
+    let b = rule.of.book.now in
     let code = code_of b in
     let a = c.action-action.result in
     let T = g.H.Host.table c.args.self.now.host.now in
     let long = same_length (slot_means (code_of a.book.now)) (take a.action.now.count a.action.now.slots) c.used.result.now c.used.ensures in
-    let slots = (λ i. action_means (code_of (c.action-action.ensures.book i)) (c.action-action.ensures.action i)) ∙ sym (part_slots code rule.rule.now c.args.part) ∙ ap (λ r. slots_of r (number c.args.part)) (sym rule.numbered.is) in
+    let slots = (λ i. action_means (code_of (c.action-action.ensures.book i)) (c.action-action.ensures.action i)) ∙ sym (part_slots code rule.of.rule.now c.args.part) ∙ ap (λ r. slots_of r (number c.args.part)) (sym rule.numbered.is) in
     let values = ap (λ n. take n c.values.result) long ∙ c.values.ensures ∙ ap (evaluated T c.args.self.now.device c.args.receiver) slots in
     λ i. record { device = c.args.receiver; rule = rule.number; part = number c.args.part; values = values i }

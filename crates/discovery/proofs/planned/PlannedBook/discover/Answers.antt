@@ -20,21 +20,18 @@ loop-number-init g c M planned =
 pub bounds-routes-number : goal.bounds-routes-number
 bounds-routes-number g c = rule_early c.args.self.now.book.now c.args.self.now.formed c.loop-number.number _ c.used_rules-rule-items.ensures c.loop-number-test.true
 
-pub overflow_cast-rule : goal.overflow_cast-rule
-overflow_cast-rule g c = record { fits = omega (arith, rule_early c.args.self.now.book.now c.args.self.now.formed c.loop-number.number _ c.used_rules-rule-items.ensures c.loop-number-test.true) }
+pub overflow_cast-firing : goal.overflow_cast-firing
+overflow_cast-firing g c = record { fits = omega (arith, rule_early c.args.self.now.book.now c.args.self.now.formed c.loop-number.number _ c.used_rules-rule-items.ensures c.loop-number-test.true) }
 
-pub invariant_of-rule : goal.invariant_of-rule
-invariant_of-rule g c =
+pub invariant_of-of : goal.invariant_of-of
+invariant_of-of g c =
     let of = c.args.self.now in
-    let at = rule_at of.book.now of.formed c.loop-number.number _ c.used_rules-rule-items.ensures _ c.loop-number-test.true in
-    record { formed = of.formed; right = at.0; numbered = at.1 }
+    record { right = (rule_at of.book.now of.formed c.loop-number.number _ c.used_rules-rule-items.ensures _ c.loop-number-test.true).0 }
 
 pub invariant_of-firing : goal.invariant_of-firing
 invariant_of-firing g c =
     let of = c.args.self.now in
-    let k = c.loop-number.number in
-    let at = (rule_at of.book.now of.formed k _ c.used_rules-rule-items.ensures _ c.loop-number-test.true).1 in
-    record { known = of.ready.0 k _ at.inside ∙ ap received at.is }
+    record { formed = of.formed; numbered = (rule_at of.book.now of.formed c.loop-number.number _ c.used_rules-rule-items.ensures _ c.loop-number-test.true).1 }
 
 pub loop-number-preserved : goal.loop-number-preserved
 loop-number-preserved g c M planned =
@@ -43,7 +40,7 @@ loop-number-preserved g c M planned =
     let k = c.loop-number.number in
     let f = by_rule b (g.H.Host.table c.args.host.now) c.args.device c.args.changed in
     let inside : k < length b.rules = omega (arith, same_length (rule_means (code_of of.book.now)) (take of.book.now.rule_count of.book.now.rules) _ c.used_rules-rule-items.ensures, c.loop-number-test.true) in
-    settled_then M b (view c.args.lanes.now) (view c.loop-number.lanes) _ _ _ (c.loop-number.invariant M planned) (c.by_rule.ensures M (planned k _ inside)) ∙ ap (settled M b (view c.args.lanes.now)) (joined_one f k)
+    settled_then M b (view c.args.lanes.now) (view c.loop-number.lanes) _ _ _ (c.loop-number.invariant M planned) (c.by_rule.ensures M (planned k inside)) ∙ ap (settled M b (view c.args.lanes.now)) (joined_one f k)
 
 pub returns : goal.returns
 returns g c M planned =

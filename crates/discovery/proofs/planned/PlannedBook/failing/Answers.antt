@@ -24,14 +24,11 @@ tested b T d set k m x r at is e =
 pub bounds-reads-number : goal.bounds-reads-number
 bounds-reads-number g c = clause_early c.args.self.now.book.now c.args.self.now.formed c.loop-number.number _ c.used_clauses-clause-items.ensures c.loop-number-test.true
 
-pub overflow_cast-clause : goal.overflow_cast-clause
-overflow_cast-clause g c = record { fits = omega (arith, clause_early c.args.self.now.book.now c.args.self.now.formed c.loop-number.number _ c.used_clauses-clause-items.ensures c.loop-number-test.true) }
-
 pub invariant_of-clause : goal.invariant_of-clause
 invariant_of-clause g c =
     let of = c.args.self.now in
     let at = clause_at of.book.now of.formed c.loop-number.number _ c.used_clauses-clause-items.ensures _ c.loop-number-test.true in
-    record { right = at.0; counted = at.1; near = at.2; early = clause_early c.args.self.now.book.now c.args.self.now.formed c.loop-number.number _ c.used_clauses-clause-items.ensures c.loop-number-test.true }
+    record { right = at.0; near = at.2 }
 
 pub overflow_cast-result : goal.overflow_cast-result
 overflow_cast-result g c = record { fits = omega (arith, clause_early c.args.self.now.book.now c.args.self.now.formed c.loop-number.number _ c.used_clauses-clause-items.ensures c.loop-number-test.true) }
