@@ -1,5 +1,5 @@
 -- Each clause that watches the part adds what it reads.
-use Rattle.std.proofs.Common.{◌≡◌, ℕ, Bool, true, false, cond, not, ◌&&◌, eqb, List, map, get_or, sym, refl, ap, ◌∙◌, arith}
+use Rattle.std.proofs.Common.{◌≡◌, ℕ, Bool, true, false, cond, not, ◌&&◌, eqb, List, map, get_or, sym, refl, ap, ◌∙◌}
 use lib.Bits.{bit_and}
 use Rattle.std.proofs.lemmas.Bool.{and_from, and_left, and_right, not_from_true, not_from_false, eq-eqb, ne_eqb, cond-true, cond-false}
 use Rattle.book.specs.declared.rule.Clause.{Clause}
@@ -30,10 +30,6 @@ module _ (x y : ℕ) (t : Bool) (n m all : ℕ) (e : x ≡ y) where
 
   elsewhere : false ≡ t → all ≡ m → all ≡ cond (not (eqb y 0) && t) n m
   elsewhere not-here is = is ∙ sym (cond-false _ n m (and_right _ t (sym not-here)))
-
-pub overflow_cast-clause : goal.overflow_cast-clause
-overflow_cast-clause c =
-    record { fits = omega (arith, clause_early c.args.rule.now.book.now c.args.rule.now.formed c.loop-number.number _ c.used_clauses-clause-items.ensures c.loop-number-test.true) }
 
 pub invariant_of-clause : goal.invariant_of-clause
 invariant_of-clause c =

@@ -1,16 +1,12 @@
 -- Each turn finds the route of one rule.
-use Rattle.std.proofs.Common.{◌<◌, take, sym, subst, arith}
+use Rattle.std.proofs.Common.{sym, subst}
 use Rattle.levels.specs.Scales.{scaled_meets}
-use Rattle.book.specs.Means.{code_of, rule_means, means}
-use Rattle.book.proofs.Numbering.{same_length, rule_early, rule_at}
+use Rattle.book.specs.Means.{means}
+use Rattle.book.proofs.Numbering.{rule_early, rule_at}
 use Rattle.discovery.specs.declared.plan.Route.{Route}
 use Rattle.discovery.specs.Plans.{RouteOf, Routed}
 use Rattle.discovery.proofs.Filling.{filled_more}
 use Rattle.discovery.proofs.accepted.AcceptedBook.routes.Goals as goal
-
-pub overflow_cast-rule : goal.overflow_cast-rule
-overflow_cast-rule c =
-    record { fits = omega (arith, rule_early c.args.self.now.book.now c.args.self.now.accepted.formed c.loop-number.number _ c.used_rules-rule-items.ensures c.loop-number-test.true) }
 
 pub invariant_of-rule : goal.invariant_of-rule
 invariant_of-rule c =
@@ -18,21 +14,12 @@ invariant_of-rule c =
     let at = rule_at of.book.now of.accepted.formed c.loop-number.number _ c.used_rules-rule-items.ensures _ c.loop-number-test.true in
     record { formed = of.accepted.formed; right = at.0; numbered = at.1 }
 
-pub bounds-routes-number : goal.bounds-routes-number
-bounds-routes-number c =
-    rule_early c.args.self.now.book.now c.args.self.now.accepted.formed c.loop-number.number _ c.used_rules-rule-items.ensures c.loop-number-test.true
-
 pub loop-number-preserved : goal.loop-number-preserved
 loop-number-preserved c =
     let of = c.args.self.now in
     let b = of.book.now in
     let M = scaled_meets of.scale.now in
     let at = (rule_at b of.accepted.formed c.loop-number.number _ c.used_rules-rule-items.ensures _ c.loop-number-test.true).1 in
-    let few : c.loop-number.number < 32 = bounds-routes-number c in
+    let few = rule_early b of.accepted.formed c.loop-number.number _ c.used_rules-rule-items.ensures c.loop-number-test.true in
     let filled = λ (d : Route). filled_more (λ i x. Routed M (means b) i x) c.loop-number.routes 32 c.loop-number.number d c.route.result c.loop-number.invariant.0 few (subst (λ r. RouteOf M (means b) r c.route.result) (sym at.is) c.route.ensures) (λ j h. c.loop-number.invariant.1 j d h) in
     ((filled c.route.result).0, λ j d h. (filled d).1 j h)
-
-pub returns : goal.returns
-returns c i d h =
-    let b = c.args.self.now.book.now in
-    c.loop-number.invariant.1 i d (omega (arith, h, same_length (rule_means (code_of b)) (take b.rule_count b.rules) _ c.used_rules-rule-items.ensures, c.loop-number-test.false))

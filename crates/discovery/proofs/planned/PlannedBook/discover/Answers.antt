@@ -7,7 +7,7 @@ use Rattle.lanes.proofs.Views.{view_bounded}
 use Rattle.meaning.specs.Flow.{received}
 use Rattle.runs.specs.Discovery.{settled}
 use Rattle.verdict.proofs.Blocks.{joined_one}
-use Rattle.book.proofs.Numbering.{same_length, rule_early, rule_at}
+use Rattle.book.proofs.Numbering.{same_length, rule_at}
 use Rattle.discovery.specs.Forming.{by_rule}
 use Rattle.discovery.proofs.Formed.{by_rules}
 use Rattle.discovery.proofs.Settling.{settled_none, settled_then}
@@ -16,12 +16,6 @@ use Rattle.discovery.proofs.planned.PlannedBook.discover.Goals as goal
 pub loop-number-init : goal.loop-number-init
 loop-number-init g c M planned =
     settled_none M (means c.args.self.now.book.now) (view c.args.lanes.now) (λ n. (view_bounded c.args.lanes.now n).few_lost)
-
-pub bounds-routes-number : goal.bounds-routes-number
-bounds-routes-number g c = rule_early c.args.self.now.book.now c.args.self.now.formed c.loop-number.number _ c.used_rules-rule-items.ensures c.loop-number-test.true
-
-pub overflow_cast-rule : goal.overflow_cast-rule
-overflow_cast-rule g c = record { fits = omega (arith, rule_early c.args.self.now.book.now c.args.self.now.formed c.loop-number.number _ c.used_rules-rule-items.ensures c.loop-number-test.true) }
 
 pub invariant_of-rule : goal.invariant_of-rule
 invariant_of-rule g c =

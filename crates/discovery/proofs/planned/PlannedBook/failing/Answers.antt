@@ -1,12 +1,11 @@
 -- Each turn tests one clause, by what the plan says that it reads.
-use Rattle.std.proofs.Common.{◌≡◌, ℕ, ◌<◌, Bool, not, ◌&&◌, eqb, List, length, take, sym, ap, ◌∙◌, arith}
+use Rattle.std.proofs.Common.{◌≡◌, ℕ, Bool, not, ◌&&◌, eqb, length, take, sym, ap, ◌∙◌, arith}
 use Rattle.book.specs.declared.book.Book.{Book}
 use Rattle.book.specs.declared.rule.Clause.{Clause}
 use Rattle.book.specs.Means.{code_of, clause_means, means}
 use Rattle.evaluation.specs.Posted.{posted}
 use Rattle.meaning.specs.Expression.{reads}
 use Rattle.meaning.specs.Flow.{share}
-use Rattle.meaning.specs.WellFormed.{WellFormed}
 use Rattle.runs.specs.Clauses.{holds, concerns}
 use Rattle.runs.specs.Table.{Table}
 use Rattle.book.specs.Rights.{Counted}
@@ -21,20 +20,11 @@ tested b T d set k m x r at is e =
     let known = is ∙ ap (λ z. reads 0 z.test) at.is in
     e ∙ ap (λ n. (eqb y.device d && share n set) && not (holds T y)) known ∙ ap (λ z. (eqb z.device d && share (reads 0 z.test) set) && not (holds T z)) (sym at.is)
 
-pub bounds-reads-number : goal.bounds-reads-number
-bounds-reads-number g c = clause_early c.args.self.now.book.now c.args.self.now.formed c.loop-number.number _ c.used_clauses-clause-items.ensures c.loop-number-test.true
-
-pub overflow_cast-clause : goal.overflow_cast-clause
-overflow_cast-clause g c = record { fits = omega (arith, clause_early c.args.self.now.book.now c.args.self.now.formed c.loop-number.number _ c.used_clauses-clause-items.ensures c.loop-number-test.true) }
-
 pub invariant_of-clause : goal.invariant_of-clause
 invariant_of-clause g c =
     let of = c.args.self.now in
     let at = clause_at of.book.now of.formed c.loop-number.number _ c.used_clauses-clause-items.ensures _ c.loop-number-test.true in
     record { right = at.0; counted = at.1; near = at.2; early = clause_early c.args.self.now.book.now c.args.self.now.formed c.loop-number.number _ c.used_clauses-clause-items.ensures c.loop-number-test.true }
-
-pub overflow_cast-result : goal.overflow_cast-result
-overflow_cast-result g c = record { fits = omega (arith, clause_early c.args.self.now.book.now c.args.self.now.formed c.loop-number.number _ c.used_clauses-clause-items.ensures c.loop-number-test.true) }
 
 pub returns-then-is_broken : goal.returns-then-is_broken
 returns-then-is_broken g c =
