@@ -13,19 +13,3 @@ invariant_of-clause c =
     let at = numbering.clause_at book.book.now book.formed c.loop-number.number _ c.used_clauses-clause-items.ensures _ c.loop-number-test.true in
     record { right = at.0; near = at.2 }
 
-pub bounds-sets-number : goal.bounds-sets-number
-bounds-sets-number c =
-    numbering.clause_early c.args.book.now.book.now c.args.book.now.formed c.loop-number.number _ c.used_clauses-clause-items.ensures c.loop-number-test.true
-
-pub loop-number-preserved : goal.loop-number-preserved
-loop-number-preserved c =
-    let book = c.args.book.now in
-    let b = book.book.now in
-    let at = numbering.clause_at b book.formed c.loop-number.number _ c.used_clauses-clause-items.ensures _ c.loop-number-test.true in
-    let few : c.loop-number.number < 32 = bounds-sets-number c in
-    filled_more (λ j n. n ≡ reads 0 (clause_at (means b) j).test) c.loop-number.sets 32 c.loop-number.number 0 c.reads.result c.loop-number.invariant.0 few (c.reads.ensures ∙ ap (λ code. reads 0 (decoded code)) c.test.ensures ∙ sym (ap (λ x. reads 0 x.test) at.1.is)) c.loop-number.invariant.1
-
-pub returns : goal.returns
-returns c j h =
-    let b = c.args.book.now.book.now in
-    c.loop-number.invariant.1 j (omega (arith, h, numbering.same_length (clause_means (code_of b)) (take b.clause_count b.clauses) _ c.used_clauses-clause-items.ensures, c.loop-number-test.false))

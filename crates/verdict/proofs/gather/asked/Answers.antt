@@ -1,10 +1,9 @@
 -- Each slot adds what its expression reads of the receiver.
-use Rattle.std.proofs.Common.{ℕ, List, map, sym, refl, ap, ◌∙◌, subst}
+use Rattle.std.proofs.Common.{ℕ, List, map, refl, ap, ◌∙◌}
 use Rattle.book.specs.declared.rule.Slot.{Slot}
 use Rattle.book.specs.Means.{code_of, spanned, slot_means}
 use Rattle.meaning.specs.Expression.{asks, decoded}
 use Rattle.meaning.specs.Flow as meant
-use Rattle.book.specs.Sides.{Small}
 use Rattle.verdict.proofs.Folds.{Folds, goes_on, ends}
 use Rattle.book.proofs.Rightness.{slot_right}
 use Rattle.verdict.proofs.gather.asked.Goals as goal

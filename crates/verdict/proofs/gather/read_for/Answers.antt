@@ -1,11 +1,10 @@
 -- Each slot for the target adds what its expression reads.
-use Rattle.std.proofs.Common.{◌≡◌, ℕ, cond, eqb, List, map, get_or, sym, refl, ap, ◌∙◌, subst}
+use Rattle.std.proofs.Common.{◌≡◌, ℕ, cond, eqb, List, map, get_or, sym, refl, ap, ◌∙◌}
 use Rattle.std.proofs.lemmas.Bool.{cond-true, cond-false, eq-eqb, ne_eqb}
 use Rattle.book.specs.declared.rule.Slot.{Slot}
 use Rattle.book.specs.Means.{code_of, spanned, slot_means}
 use Rattle.meaning.specs.Expression.{decoded}
 use Rattle.meaning.specs.Flow as meant
-use Rattle.book.specs.Sides.{Small}
 use Rattle.verdict.proofs.Folds.{Folds, goes_on, ends}
 use Rattle.book.proofs.Rightness.{slot_right}
 use Rattle.verdict.proofs.gather.read_for.Goals as goal

@@ -1,5 +1,5 @@
 -- The list is that of the order, since the scale is, and of the draft's book.
-use Rattle.std.proofs.Common.{◌≡◌, ℕ, ◌*◌, ◌≤◌, List, length, Ok, Err, Result, sym, ap, subst, arith}
+use Rattle.std.proofs.Common.{◌≡◌, ℕ, ◌*◌, List, length, Ok, Err, Result, sym, ap, subst, arith}
 use Rattle.fault.specs.declared.fault.CallCause.TheVariants.{Buffer}
 use Rattle.fault.specs.declared.fault.Layer.TheVariants.{Call}
 use Rattle.fault.specs.declared.fault.Fault.{Fault}

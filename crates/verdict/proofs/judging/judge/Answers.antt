@@ -1,12 +1,12 @@
 -- A draft that the verdict lets pass is sound, and the smallest book is so under every order.
-use Rattle.std.proofs.Common.{◌≤◌, is_ok, sym, refl, ap, ◌∙◌, subst}
-use Rattle.std.proofs.lemmas.Bool.{eq-eqb, cond-true, cond-false}
+use Rattle.std.proofs.Common.{◌≤◌, sym, ap, ◌∙◌, subst}
+use Rattle.std.proofs.lemmas.Bool.{eq-eqb}
 use Rattle.meaning.specs.Flow.{levelled}
 use Rattle.meaning.specs.Levels.{Order}
 use Rattle.levels.specs.Scales.{scaled}
 use Rattle.book.specs.Means.{means}
-use Rattle.verdict.specs.Verdicts.{judged, is_sound}
-use Rattle.verdict.proofs.Judged.{judged_empty, judged_levels, smallest_levelled, smallest_sound, not_refused, refused}
+use Rattle.verdict.specs.Verdicts.{is_sound}
+use Rattle.verdict.proofs.Judged.{judged_empty, judged_levels, smallest_levelled, smallest_sound, not_refused}
 use Rattle.verdict.proofs.judging.judge.Goals as goal
 use Rattle.verdict.proofs.judging.judge.Goals.{then-is_err, else-is_err}
 
@@ -23,17 +23,3 @@ invariant_of-result g c =
           let passes = sym c.verdict.ensures ∙ not_refused c.verdict.result (sym c.is_err.ensures.value ∙ w.if-is_err.false) in
           record { levelled = ap (levelled o) book ∙ judged_levels o _ passes; sound = ap (is_sound o) book ∙ eq-eqb _ 0 (judged_empty o _ passes) }
     ]
-
-pub returns : goal.returns
-returns g c =
-    let b = means c.args.draft.book in
-    let ranks = c.written_out-scale.ensures.ranks in
-    let answer = c.verdict.ensures ∙ ap (λ o. judged o b) ranks in
-    record {
-      book = elim c.if-is_err.branch [
-        | then-is_err w ↦ ap (λ d. means d.book) w.draft-is ∙ w.smallest-draft.ensures ∙ sym (cond-false _ _ _ (ap is_ok (sym answer) ∙ refused c.verdict.result (sym c.is_err.ensures.value ∙ w.if-is_err.true)))
-        | else-is_err w ↦ ap (λ d. means d.book) w.draft-is ∙ sym (cond-true _ _ _ (ap is_ok (sym answer ∙ not_refused c.verdict.result (sym c.is_err.ensures.value ∙ w.if-is_err.false))))
-      ];
-      order = refl;
-      scale = ranks;
-    }

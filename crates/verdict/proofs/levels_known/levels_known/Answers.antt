@@ -1,5 +1,5 @@
 -- The levels are tested one after the other.
-use Rattle.std.proofs.Common.{ap, ◌∙◌, length, rules, arith}
+use Rattle.std.proofs.Common.{ap, ◌∙◌, length, rules}
 use Rattle.meaning.specs.Checks.{through}
 use Rattle.levels.specs.Scales.{scaled}
 use Rattle.book.specs.Means.{means}

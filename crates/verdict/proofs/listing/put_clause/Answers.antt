@@ -1,14 +1,11 @@
 -- A clause is one row, in which what it reads is both sources and targets.
-use Rattle.std.proofs.Common.{ap, ◌∙◌, arith}
+use Rattle.std.proofs.Common.{ap, ◌∙◌}
 use Rattle.meaning.specs.Expression.{decoded, reads}
 use Rattle.levels.specs.Scales.{scaled}
 use Rattle.book.specs.Means.{code_of, clause_means, means}
 use Rattle.verdict.proofs.Forbidding.{clause_row}
 use Rattle.verdict.proofs.Putting.{put_same}
 use Rattle.verdict.proofs.listing.put_clause.Goals as goal
-
-pub overflow_add-row : goal.overflow_add-row
-overflow_add-row c = record { fits = omega (arith, c.args.clause.now.early) }
 
 pub returns-clause-put : goal.returns-clause-put
 returns-clause-put c =

@@ -1,5 +1,4 @@
 -- The default part, then the task part.
-use Rattle.std.proofs.Common.{arith}
 use Rattle.meaning.specs.Flow.{forbidden}
 use Rattle.meaning.specs.FlowList.{of_part}
 use Rattle.levels.specs.Scales.{scaled}

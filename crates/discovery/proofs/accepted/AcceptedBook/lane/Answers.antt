@@ -6,7 +6,7 @@ use Rattle.book.specs.declared.book.Book.{Book}
 use Rattle.book.specs.declared.rule.Action.{Action}
 use Rattle.book.specs.Means.{code_of, action_means, means}
 use Rattle.book.specs.Rights.{RightAction}
-use Rattle.meaning.specs.Book.{Slot, resources}
+use Rattle.meaning.specs.Book.{resources}
 use Rattle.meaning.specs.Flow.{level, set_by}
 use Rattle.runs.specs.Update.{level_of}
 use Rattle.runs.proofs.Sources.{Slotted, slotted}

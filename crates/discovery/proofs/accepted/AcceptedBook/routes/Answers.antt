@@ -12,20 +12,12 @@ invariant_of-route c =
     let of = c.args.self.now in
     record { right = (rule_at of.book.now of.accepted.formed c.loop-number.number _ c.used_rules-rule-items.ensures _ c.loop-number-test.true).0 }
 
-pub bounds-routes-number : goal.bounds-routes-number
-bounds-routes-number c =
-    rule_early c.args.self.now.book.now c.args.self.now.accepted.formed c.loop-number.number _ c.used_rules-rule-items.ensures c.loop-number-test.true
-
 pub loop-number-preserved : goal.loop-number-preserved
 loop-number-preserved c =
     let of = c.args.self.now in
     let b = of.book.now in
     let M = scaled_meets of.scale.now in
     let at = (rule_at b of.accepted.formed c.loop-number.number _ c.used_rules-rule-items.ensures _ c.loop-number-test.true).1 in
-    let few : c.loop-number.number < 32 = bounds-routes-number c in
+    let few : c.loop-number.number < 32 = rule_early b of.accepted.formed c.loop-number.number _ c.used_rules-rule-items.ensures c.loop-number-test.true in
     filled_more (λ i x. Routed M (means b) i x × Laned x) c.loop-number.routes 32 c.loop-number.number no_route c.route.result c.loop-number.invariant.0 few (subst (λ r. RouteOf M (means b) r c.route.result) (sym at.is) c.route.ensures.route, c.route.ensures.lanes) c.loop-number.invariant.1
 
-pub returns : goal.returns
-returns c i h =
-    let b = c.args.self.now.book.now in
-    c.loop-number.invariant.1 i (omega (arith, h, same_length (rule_means (code_of b)) (take b.rule_count b.rules) _ c.used_rules-rule-items.ensures, c.loop-number-test.false))

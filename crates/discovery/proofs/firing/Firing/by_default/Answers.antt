@@ -8,11 +8,6 @@ use Rattle.discovery.proofs.Settling.{settled_when, settled_unless}
 use Rattle.discovery.proofs.Values.{some_used}
 use Rattle.discovery.proofs.firing.Firing.by_default.Goals as goal
 
-pub returns-then-not-is_empty : goal.returns-then-not-is_empty
-returns-then-not-is_empty g c M is =
-    let some = some_used c.args.self.now.rule.of.book.now c.args.self.now.rule.number c.args.self.now.rule.of.rule.now Default c.used.result.now c.args.self.now.rule.numbered c.used.ensures in
-    settled_when M (means c.args.self.now.rule.of.book.now) _ (view c.args.lanes.now) _ _ (some ∙ ap not (sym c.if-not-is_empty.ensures)) (c.form.ensures M is)
-
 pub returns-else-not-is_empty : goal.returns-else-not-is_empty
 returns-else-not-is_empty g c M is =
     let some = some_used c.args.self.now.rule.of.book.now c.args.self.now.rule.number c.args.self.now.rule.of.rule.now Default c.used.result.now c.args.self.now.rule.numbered c.used.ensures in

@@ -7,14 +7,6 @@ use Rattle.meaning.specs.Flow.{lands}
 use Rattle.discovery.proofs.Settling.{settled_when, settled_unless}
 use Rattle.discovery.proofs.firing.Firing.by_task_for.Goals as goal
 
-pub returns-then-reaches : goal.returns-then-reaches
-returns-then-reaches g c M routed =
-    let b = means c.args.self.now.rule.of.book.now in
-    let d = c.args.self.now.device in
-    let e = c.args.receiver in
-    let tested = ap (λ r. not (eqb e d) && lands b r 1 e) c.args.self.now.rule.numbered.is ∙ sym c.if-reaches.ensures in
-    settled_when M b _ (view c.args.lanes.now) _ _ tested (c.by_task_at.ensures M routed)
-
 pub returns-else-reaches : goal.returns-else-reaches
 returns-else-reaches g c M routed =
     let b = means c.args.self.now.rule.of.book.now in

@@ -9,7 +9,7 @@ use Rattle.meaning.specs.Expression.{decoded}
 use Rattle.runs.specs.Table.{value_at}
 use Rattle.book.proofs.Numbering.{same_length}
 use Rattle.discovery.proofs.Filling.{filled_more}
-use Rattle.book.proofs.Rightness.{code_runnable, slot_right, slots_few}
+use Rattle.book.proofs.Rightness.{slot_right, slots_few}
 use Rattle.discovery.proofs.Values.{no_slot, taken_values}
 use Rattle.discovery.proofs.firing.Firing.values.Goals as goal
 
@@ -18,16 +18,9 @@ invariant_of-slot g c =
     let action = c.args.action.now in
     record { right = slot_right action.book.now action.action.now action.right c.used-slot-items.result.now c.used-slot-items.ensures c.loop-place.place _ c.loop-place-test.true }
 
-pub value-requires : goal.value-requires
-value-requires g c = code_runnable c.value-code.result.bytes.now c.value-code.result.right
-
-pub bounds-values-place : goal.bounds-values-place
-bounds-values-place g c =
-    omega (arith, slots_few c.args.action.now.book.now c.args.action.now.action.now c.args.action.now.right _ c.used-slot-items.ensures, c.loop-place-test.true)
-
 pub loop-place-preserved : goal.loop-place-preserved
 loop-place-preserved g c =
-    let few : c.loop-place.place < 4 = bounds-values-place g c in
+    let few : c.loop-place.place < 4 = omega (arith, slots_few c.args.action.now.book.now c.args.action.now.action.now c.args.action.now.right _ c.used-slot-items.ensures, c.loop-place-test.true) in
     let T = g.H.Host.table c.args.self.now.host.now in
     let code = code_of c.args.action.now.book.now in
     let used = c.used-slot-items.result.now in

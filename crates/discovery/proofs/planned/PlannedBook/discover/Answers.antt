@@ -17,12 +17,6 @@ pub loop-number-init : goal.loop-number-init
 loop-number-init g c M planned =
     settled_none M (means c.args.self.now.book.now) (view c.args.lanes.now) (λ n. (view_bounded c.args.lanes.now n).few_lost)
 
-pub bounds-routes-number : goal.bounds-routes-number
-bounds-routes-number g c = rule_early c.args.self.now.book.now c.args.self.now.formed c.loop-number.number _ c.used_rules-rule-items.ensures c.loop-number-test.true
-
-pub overflow_cast-firing : goal.overflow_cast-firing
-overflow_cast-firing g c = record { fits = omega (arith, rule_early c.args.self.now.book.now c.args.self.now.formed c.loop-number.number _ c.used_rules-rule-items.ensures c.loop-number-test.true) }
-
 pub invariant_of-of : goal.invariant_of-of
 invariant_of-of g c =
     let of = c.args.self.now in

@@ -21,17 +21,11 @@ tested b T d set k m x r at is e =
     let known = is ∙ ap (λ z. reads 0 z.test) at.is in
     e ∙ ap (λ n. (eqb y.device d && share n set) && not (holds T y)) known ∙ ap (λ z. (eqb z.device d && share (reads 0 z.test) set) && not (holds T z)) (sym at.is)
 
-pub bounds-reads-number : goal.bounds-reads-number
-bounds-reads-number g c = clause_early c.args.self.now.book.now c.args.self.now.formed c.loop-number.number _ c.used_clauses-clause-items.ensures c.loop-number-test.true
-
 pub invariant_of-clause : goal.invariant_of-clause
 invariant_of-clause g c =
     let of = c.args.self.now in
     let at = clause_at of.book.now of.formed c.loop-number.number _ c.used_clauses-clause-items.ensures _ c.loop-number-test.true in
     record { right = at.0; near = at.2 }
-
-pub overflow_cast-result : goal.overflow_cast-result
-overflow_cast-result g c = record { fits = omega (arith, clause_early c.args.self.now.book.now c.args.self.now.formed c.loop-number.number _ c.used_clauses-clause-items.ensures c.loop-number-test.true) }
 
 pub returns-then-is_broken : goal.returns-then-is_broken
 returns-then-is_broken g c =

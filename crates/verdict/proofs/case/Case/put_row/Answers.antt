@@ -1,8 +1,6 @@
 -- Each turn puts the flows to one target, if it is in the set, after those before it.
-use Rattle.std.proofs.Common.{◌≡◌, ℕ, length, get_or, filter, ap, arith}
-use Rattle.std.specs.List.{range_with_len, flat_map}
+use Rattle.std.proofs.Common.{ℕ, get_or, ap, arith}
 use Rattle.std.proofs.lemmas.Bool.{eq-eqb, ne_eqb}
-use Rattle.meaning.specs.Book.{resources}
 use Rattle.meaning.specs.FlowList.{to_target}
 use Rattle.levels.specs.Scales.{scaled}
 use Rattle.book.specs.Means.{means}
@@ -15,9 +13,6 @@ use Rattle.verdict.proofs.case.Case.put_row.Goals.{then-targets-target-eq1, else
 
 pub loop-target-init : goal.loop-target-init
 loop-target-init c = (put_none _, omega arith)
-
-pub put_target-requires : goal.put_target-requires
-put_target-requires c = omega (arith, ap length c.used_levels-target-end.ensures)
 
 pub loop-target-preserved : goal.loop-target-preserved
 loop-target-preserved c =
@@ -36,16 +31,3 @@ loop-target-preserved c =
           let block = row_out o b c.args.targets sources row.rule row.part (number row.kind) k (ne_eqb _ _ w.if-targets-target-eq1.false) in
           (put_at w.buffer-is (put_next test blocks k c.loop-target.invariant.0 (put_same block (put_none _))), omega (arith, ap (λ b. b.at) w.buffer-is))
     ]
-
-pub returns : goal.returns
-returns c =
-    let o = scaled c.args.self.now.scale.now in
-    let b = means c.args.self.now.book.now in
-    let sources : ℕ → ℕ = λ t. get_or c.args.sources.now t 0 in
-    let row = c.args.row in
-    let few : length c.used_levels-target-end.result.now ≡ resources b = ap length c.used_levels-target-end.ensures in
-    let all : c.loop-target.target ≡ resources b = omega arith in
-    record {
-      put = put_same (ap (λ n. filter (in_row o b c.args.targets sources) (flat_map (to_target b row.rule row.part (number row.kind)) (range_with_len 0 n))) all) c.loop-target.invariant.0;
-      bound = omega (arith, all);
-    }
