@@ -1,12 +1,11 @@
 -- Each turn puts the flows of one clause after those before it.
-use Rattle.std.proofs.Common.{◌≡◌, length, take, filter, ap, arith}
-use Rattle.std.specs.List.{range_with_len, flat_map}
+use Rattle.std.proofs.Common.{arith}
 use Rattle.meaning.specs.Flow.{forbidden}
 use Rattle.meaning.specs.FlowList.{of_clause}
 use Rattle.levels.specs.Scales.{scaled}
-use Rattle.book.specs.Means.{code_of, clause_means, means}
-use Rattle.book.proofs.Numbering.{same_length, clause_early, clause_at}
-use Rattle.verdict.proofs.Putting.{put_none, put_same, put_next}
+use Rattle.book.specs.Means.{means}
+use Rattle.book.proofs.Numbering.{clause_at}
+use Rattle.verdict.proofs.Putting.{put_none, put_next}
 use Rattle.verdict.proofs.listing.put_clauses.Goals as goal
 
 pub loop-number-init : goal.loop-number-init
@@ -21,4 +20,3 @@ pub loop-number-preserved : goal.loop-number-preserved
 loop-number-preserved c =
     let b = means c.args.book.now.book.now in
     (put_next (forbidden (scaled c.args.scale.now) b) (of_clause b) c.loop-number.number c.loop-number.invariant.0 c.put_clause.ensures.put, omega (arith, c.put_clause.ensures.bound))
-

@@ -4,7 +4,7 @@ use Rattle.book.specs.declared.part.Part.TheVariants.{Default}
 use Rattle.book.specs.Means.{means}
 use Rattle.lanes.specs.View.{view}
 use Rattle.lanes.proofs.Views.{view_bounded}
-use Rattle.discovery.proofs.Settling.{settled_when, settled_unless}
+use Rattle.discovery.proofs.Settling.{settled_unless}
 use Rattle.discovery.proofs.Values.{some_used}
 use Rattle.discovery.proofs.firing.Firing.by_default.Goals as goal
 

@@ -4,7 +4,7 @@ use Rattle.book.specs.Means.{means}
 use Rattle.lanes.specs.View.{view}
 use Rattle.lanes.proofs.Views.{view_bounded}
 use Rattle.meaning.specs.Flow.{lands}
-use Rattle.discovery.proofs.Settling.{settled_when, settled_unless}
+use Rattle.discovery.proofs.Settling.{settled_unless}
 use Rattle.discovery.proofs.firing.Firing.by_task_for.Goals as goal
 
 pub returns-else-reaches : goal.returns-else-reaches

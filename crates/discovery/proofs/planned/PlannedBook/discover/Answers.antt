@@ -4,10 +4,9 @@ use Rattle.std.specs.List.{range_with_len, flat_map}
 use Rattle.book.specs.Means.{code_of, rule_means, means}
 use Rattle.lanes.specs.View.{view}
 use Rattle.lanes.proofs.Views.{view_bounded}
-use Rattle.meaning.specs.Flow.{received}
 use Rattle.runs.specs.Discovery.{settled}
 use Rattle.verdict.proofs.Blocks.{joined_one}
-use Rattle.book.proofs.Numbering.{same_length, rule_early, rule_at}
+use Rattle.book.proofs.Numbering.{same_length, rule_at}
 use Rattle.discovery.specs.Forming.{by_rule}
 use Rattle.discovery.proofs.Formed.{by_rules}
 use Rattle.discovery.proofs.Settling.{settled_none, settled_then}

@@ -1,16 +1,15 @@
 -- Each turn tests one clause, by what the plan says that it reads.
-use Rattle.std.proofs.Common.{◌≡◌, ℕ, ◌<◌, Bool, not, ◌&&◌, eqb, List, length, take, sym, ap, ◌∙◌, arith}
+use Rattle.std.proofs.Common.{◌≡◌, ℕ, Bool, not, ◌&&◌, eqb, length, take, sym, ap, ◌∙◌, arith}
 use Rattle.book.specs.declared.book.Book.{Book}
 use Rattle.book.specs.declared.rule.Clause.{Clause}
 use Rattle.book.specs.Means.{code_of, clause_means, means}
 use Rattle.evaluation.specs.Posted.{posted}
 use Rattle.meaning.specs.Expression.{reads}
 use Rattle.meaning.specs.Flow.{share}
-use Rattle.meaning.specs.WellFormed.{WellFormed}
 use Rattle.runs.specs.Clauses.{holds, concerns}
 use Rattle.runs.specs.Table.{Table}
 use Rattle.book.specs.Rights.{Counted}
-use Rattle.book.proofs.Numbering.{same_length, clause_early, clause_at}
+use Rattle.book.proofs.Numbering.{same_length, clause_at}
 use Rattle.discovery.proofs.Firsts.{fails, found, passed_over, none_left}
 use Rattle.discovery.proofs.planned.PlannedBook.failing.Goals as goal
 
