@@ -1,6 +1,6 @@
 //! Whether the expressions of a book are right, in code order.
-ghost use Rattle.std.specs.Prelude.{◌≡◌, ◌+◌, ◌*◌, ◌^◌, ◌<◌, ◌≤◌, false, length, IfSome, if◌then◌else◌};
-ghost use Rattle.meaning.specs.Expression.{named, may_stand, deepened, wrong};
+ghost use Rattle.std.specs.Prelude.{◌≡◌, ◌+◌, ◌*◌, ◌^◌, ◌<◌, ◌≤◌, false, length, IfSome};
+ghost use Rattle.meaning.specs.Expression.{named, wrong};
 ghost use Rattle.meaning.specs.Reading.{expression_checked, values_checked, rule_expressions_checked, expressions_checked};
 ghost use Rattle.book.specs.Plan.{plan};
 ghost use Rattle.book.specs.Scopes.{scoped};
@@ -31,22 +31,10 @@ impl Scope {
             Instruction::Receiver(r) => usize::from(r) < self.resources && self.receiver,
         }
     }
-
-    /// The depth of the stack after an instruction, if it may stand where the stack has a depth.
-    fn deepened(&self, depth: u8, instruction: Instruction) -> Option<u8>
-        requires { depth ≤ 8 }
-        ensures value { result ≡ (if may_stand (scoped self.now) depth instruction then Some (deepened depth instruction) else None) }
-        ensures bound { IfSome result (λ d. d ≤ 8) }
-    {
-        let pops = row_of(instruction).pops;
-        if !self.names(instruction) || depth < pops || depth + 1 - pops > DEPTH {
-            return None;
-        }
-        Some(depth + 1 - pops)
-    }
 }
 
 /// Where some code is wrong: the offset of the first instruction that may not stand, or the end if the depth is not 1 there.
+// The depth is not a value with a method: as one it takes half as many instructions again.
 fn first_wrong(code: &[u8], scope: Scope) -> Option<usize>
     ensures value { result ≡ wrong (scoped scope) code.now }
     ensures bound { IfSome result (λ k. k ≤ length code.now) }
@@ -55,11 +43,12 @@ fn first_wrong(code: &[u8], scope: Scope) -> Option<usize>
     let mut at = 0;
     let mut depth = 0;
     while let Some((instruction, tail)) = front(rest) {
-        match scope.deepened(depth, instruction) {
-            Some(deeper) => depth = deeper,
-            None => return Some(at),
+        let row = row_of(instruction);
+        if !scope.names(instruction) || depth < row.pops || depth + 1 - row.pops > DEPTH {
+            return Some(at);
         }
-        at += usize::from(row_of(instruction).length);
+        depth = depth + 1 - row.pops;
+        at += usize::from(row.length);
         rest = tail;
     }
     if rest.is_empty() && depth == 1 {

@@ -1,56 +1,54 @@
 -- What is wrong in the code is what is wrong in the rest of it, until an instruction may not stand or none is left.
-use Rattle.std.proofs.Common.{◌≡◌, ℕ, ◌+◌, Bool, true, false, cond, ◌&&◌, eqb, List, [], ◌∷◌, length, Some, None, sym, refl, ap, ◌∙◌, arith}
-use Rattle.std.proofs.lemmas.Bool.{ne_eqb}
+use Rattle.std.proofs.Common.{◌≡◌, ℕ, ◌+◌, ◌-◌, true, false, cond, eqb, leb, List, length, Some, None, sym, ap, ◌∙◌, arith}
+use Rattle.std.proofs.lemmas.List.{nil_from_length}
+use Rattle.std.proofs.lemmas.Bool.{cond-true, cond-false, eqb-true, eqb-false, eq-eqb, ne_eqb, lt-leb, and_from, and_left, and_right}
 use Rattle.std.proofs.lemmas.Bool.Decides.{nat_tests}
-use Rattle.meaning.specs.Expression.{Scope, encoded_instruction, wrong_after}
-use Rattle.book.specs.Fronts.{taken}
+use Rattle.meaning.specs.Expression.{Scope, encoded_instruction, pops, wrong_after, may_stand, named, deepened}
 use Rattle.book.specs.Scopes.{scoped}
-use Rattle.book.proofs.Walk.{Took, took, judged, stuck}
+use Rattle.book.proofs.Walk.{took, judged, shorter, stuck}
 use Rattle.book.proofs.expressions.first_wrong.Goals as goal
-use Rattle.book.proofs.expressions.first_wrong.Goals.{In-Some}
+use Rattle.book.proofs.expressions.first_wrong.Goals.{then-not-names-via-then-not-names, then-not-names-via-else-not-names+then-depth-row, then-not-names-via-else-not-names+else-depth-row+then-depth-row-gt-DEPTH, else-is_empty-via-then-is_empty+else-depth-eq1, else-is_empty-via-else-is_empty}
 
--- where nothing is left to take, only the end of the code and the depth count
-ended : (s : Scope) (at depth : ℕ) (bs : List ℕ) → None ≡ taken bs → wrong_after s 0 at depth bs ≡ cond (eqb (length bs) 0 && eqb depth 1) None (Some at)
+-- at the end only the depth counts
+at_end : (s : Scope) (at depth : ℕ) (bs : List ℕ) → length bs ≡ 0 → wrong_after s 0 at depth bs ≡ cond (eqb depth 1) None (Some at)
 unfolding wrong_after
-ended s at depth [] none = refl
-ended s at depth (b ∷ bs) none =
-    stuck s at depth (b ∷ bs) none (omega arith) ∙ sym (ap (λ t. cond (t && eqb depth 1) None (Some at)) (ne_eqb (length (b ∷ bs)) 0 (λ e. omega (arith, e))))
+at_end s at depth bs e = ap (wrong_after s 0 at depth) (nil_from_length bs e)
 
--- an instruction that may stand, and one that may not
-stands : {A : Type 0} (b : Bool) (x y : ℕ) (go : ℕ → A) (stop : A) → Some x ≡ cond b (Some y) None → cond b (go y) stop ≡ go x
-stands true x y go stop e = (let same : y ≡ x = cc in ap go same)
-stands false x y go stop e = absurd (let z : ◌≡◌ {A = ℕ} 0 1 = cc in omega arith)
-
-falls : {A : Type 0} (b : Bool) (y : ℕ) (go stop : A) → None ≡ cond b (Some y) None → cond b go stop ≡ stop
-falls true y go stop e = absurd (let z : ◌≡◌ {A = ℕ} 0 1 = cc in omega arith)
-falls false y go stop e = refl
-
-now_took : (c : In-Some) → Took c.loop-instruction.rest.now c.in-Some.instruction c.in-Some.tail.now
-now_took c = took c.loop-instruction.rest.now c.in-Some.instruction c.in-Some.tail.now c.in-Some.ensures
+pub loop-instruction-smaller : goal.loop-instruction-smaller
+loop-instruction-smaller c = shorter (took c.loop-instruction.rest.now c.in-Some.instruction c.in-Some.tail.now c.in-Some.ensures)
 
 pub loop-instruction-preserved : goal.loop-instruction-preserved
 loop-instruction-preserved c =
-    let t = now_took (goal.at.loop-instruction-preserved c).In-Some in
-    let s = scoped c.args.scope in
+    let t = took c.loop-instruction.rest.now c.in-Some.instruction c.in-Some.tail.now c.in-Some.ensures in
     let i = c.in-Some.instruction in
+    let s = scoped c.args.scope in
+    let row = c.row_of-row.ensures in
+    let stands : may_stand s c.loop-instruction.depth i ≡ true = and_from _ _ (sym c.if-not-names.ensures) (grind (arith, nat_tests)) in
     let place : c.loop-instruction.at + length (encoded_instruction i) ≡ c.loop-instruction.at + c.from-at.result = omega arith in
-    let go = λ (d : ℕ). wrong_after s 0 (c.loop-instruction.at + length (encoded_instruction i)) d c.in-Some.tail.now in (
-      sym (judged t s c.loop-instruction.at c.loop-instruction.depth ∙ stands _ c.in-Some-deepened.deeper _ go _ c.in-Some-deepened.ensures.value ∙ ap (λ p. wrong_after s 0 p c.in-Some-deepened.deeper c.in-Some.tail.now) place) ∙ c.loop-instruction.invariant.0,
-      omega (arith, t.long),
-      c.in-Some-deepened.ensures.bound,
-    )
+    let deep : deepened c.loop-instruction.depth i ≡ c.loop-instruction.depth + 1 - c.row_of-row.result.pops = omega arith in
+    (sym ((judged t s c.loop-instruction.at c.loop-instruction.depth ∙ cond-true _ _ _ stands) ∙ (λ k. wrong_after s 0 (place k) (deep k) c.in-Some.tail.now)) ∙ c.loop-instruction.invariant.0, omega (arith, t.long), c.if-depth-row-gt-DEPTH.false)
 
-pub returns-in-None-clause-value : goal.returns-in-None-clause-value
-returns-in-None-clause-value c =
-    let t = now_took (goal.at.returns-in-None-clause-value c).In-Some in
-    sym (judged t (scoped c.args.scope) c.loop-instruction.at c.loop-instruction.depth ∙ falls _ _ _ _ c.in-None.ensures.value) ∙ c.loop-instruction.invariant.0
+pub returns-then-not-names : goal.returns-then-not-names
+returns-then-not-names c =
+    let t = took c.loop-instruction.rest.now c.in-Some.instruction c.in-Some.tail.now c.in-Some.ensures in
+    let i = c.in-Some.instruction in
+    let s = scoped c.args.scope in
+    let row = c.row_of-row.ensures in
+    let falls : may_stand s c.loop-instruction.depth i ≡ false = elim c.then-not-names.branch [
+      | then-not-names-via-then-not-names w ↦ and_left _ _ (sym c.names.ensures ∙ w.if-not-names.true)
+      | then-not-names-via-else-not-names+then-depth-row w ↦ and_right _ _ (and_left _ _ (lt-leb (pops i) c.loop-instruction.depth (omega (arith, w.if-depth-row.true))))
+      | then-not-names-via-else-not-names+else-depth-row+then-depth-row-gt-DEPTH w ↦ and_right (named s i) _ (and_right (leb (pops i) c.loop-instruction.depth) _ (lt-leb (deepened c.loop-instruction.depth i) 8 (omega (arith, w.if-depth-row-gt-DEPTH.true))))
+    ] in
+    record { value = sym (cond-false _ _ _ falls) ∙ sym (judged t s c.loop-instruction.at c.loop-instruction.depth) ∙ c.loop-instruction.invariant.0; bound = omega arith }
 
-pub returns-then-depth-eq1-clause-value : goal.returns-then-depth-eq1-clause-value
-returns-then-depth-eq1-clause-value c =
-    let told = ended (scoped c.args.scope) c.loop-instruction.at c.loop-instruction.depth c.loop-instruction.rest.now c.in_default.ensures in
-    grind (arith, nat_tests)
+pub returns-then-depth-eq1 : goal.returns-then-depth-eq1
+returns-then-depth-eq1 c =
+    record { value = sym (at_end (scoped c.args.scope) _ _ _ (eqb-true _ 0 (sym c.if-is_empty.ensures)) ∙ cond-true _ _ _ (eq-eqb _ 1 c.if-depth-eq1.true)) ∙ c.loop-instruction.invariant.0; bound = tt }
 
-pub returns-else-is_empty-clause-value : goal.returns-else-is_empty-clause-value
-returns-else-is_empty-clause-value c =
-    let told = ended (scoped c.args.scope) c.loop-instruction.at c.loop-instruction.depth c.loop-instruction.rest.now c.in_default.ensures in
-    grind (arith, nat_tests)
+pub returns-else-is_empty : goal.returns-else-is_empty
+returns-else-is_empty c =
+    let ended : wrong_after (scoped c.args.scope) 0 c.loop-instruction.at c.loop-instruction.depth c.loop-instruction.rest.now ≡ Some c.loop-instruction.at = elim c.else-is_empty.branch [
+      | else-is_empty-via-then-is_empty+else-depth-eq1 w ↦ at_end _ _ _ _ (eqb-true _ 0 (sym w.if-is_empty.ensures)) ∙ cond-false _ _ _ (ne_eqb _ 1 w.if-depth-eq1.false)
+      | else-is_empty-via-else-is_empty w ↦ stuck _ _ _ _ c.in_default.ensures (omega (arith, eqb-false _ 0 (sym w.if-is_empty.ensures)))
+    ] in
+    record { value = sym ended ∙ c.loop-instruction.invariant.0; bound = omega arith }
