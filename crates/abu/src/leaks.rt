@@ -1,110 +1,113 @@
 //! The verdict on a book under an order: every forbidden flow, in numbers and in words.
-use super::answer::Answer;
-use book::{Book, Draft};
-use fault::Sentence;
+use super::failure::Failure;
+use book::{Book, CLAUSES, Draft, Part, RESOURCES, RULES, SLOTS};
+use fault::FIRST_CLAUSE;
 use levels::Order;
 use std::alloc::{AllocError, Global};
-use verdict::{flows, may_judge};
+use std::fmt;
+use verdict::{FlowKind, flows, may_judge};
 
-/// Room for the longest list: 32 rules of two parts with four kinds, four targets and 32 sources, and 32 clauses over 32
-/// resources, five bytes a flow.
-const LONGEST: usize = 327_680;
+/// The bytes of a flow in the list: rule, part, kind, target and source.
+const FLOW: usize = 5;
 
-/// The number by which a flow names the first clause, after the rules.
-const FIRST_CLAUSE: u8 = 32;
+/// The most flows by rules: of two parts, in four kinds, to each target from each resource.
+const RULE_FLOWS: usize = RULES * 2 * 4 * SLOTS * RESOURCES;
 
-/// One flow of the list.
+/// The most flows by clauses: to each resource from each resource.
+const CLAUSE_FLOWS: usize = CLAUSES * RESOURCES * RESOURCES;
+
+/// Room for the longest list.
+const LONGEST: usize = (RULE_FLOWS + CLAUSE_FLOWS) * FLOW;
+
+/// By whom a flow goes: a part of a rule, or a clause.
 #[derive(Clone, Copy)]
-struct Flow {
-    rule: u8,
-    part: u8,
-    kind: u8,
-    target: u8,
-    source: u8,
+enum Way {
+    Rule(u8, Part),
+    Clause(u8),
 }
 
-/// By whom a flow goes, as `rule 3, task` or `clause 0`.
-fn way(heap: Global, flow: Flow) -> Result<String, AllocError> {
-    let Flow { rule, part, .. } = flow;
-    if rule >= FIRST_CLAUSE {
-        let clause = rule - FIRST_CLAUSE;
-        return format!(in heap; "clause {clause}");
-    }
-    if part == 0 {
-        return format!(in heap; "rule {rule}, default");
-    }
-    format!(in heap; "rule {rule}, task")
-}
-
-/// What lets a source flow to a target.
-fn reason(kind: u8) -> &'static str {
-    match kind {
-        1 => "an event",
-        2 => "read by the condition",
-        3 => "read by the expression for the target",
-        4 => "read by a clause that watches a target",
-        _ => "read together with the target",
+impl Way {
+    /// The way that the first two numbers of a flow name. A part that there is not would be taken for a task.
+    fn of(rule: u8, part: u8) -> Way {
+        match rule.checked_sub(FIRST_CLAUSE) {
+            Some(clause) => Way::Clause(clause),
+            None => Way::Rule(rule, Part::try_from(part).unwrap_or(Part::Task)),
+        }
     }
 }
 
-fn level_of(book: &Book, resource: u8) -> u8 {
-    book.used_levels()
-        .get(usize::from(resource))
-        .copied()
-        .unwrap_or(0)
+/// The way in words, as `rule 3, task` or `clause 0`.
+impl fmt::Display for Way {
+    fn fmt<W: fmt::Write>(&self, f: &mut fmt::Formatter<W>) -> fmt::Result {
+        match self {
+            Way::Rule(rule, Part::Default) => write!(f, "rule {rule}, default"),
+            Way::Rule(rule, Part::Task) => write!(f, "rule {rule}, task"),
+            Way::Clause(clause) => write!(f, "clause {clause}"),
+        }
+    }
 }
 
-/// The two lines of a flow: its numbers, and a sentence.
-fn lines(heap: Global, book: &Book, flow: Flow) -> Result<String, AllocError> {
-    let way = way(heap, flow)?;
-    let reason = reason(flow.kind);
-    let from = level_of(book, flow.source);
-    let to = level_of(book, flow.target);
-    let Flow {
-        rule,
-        part,
-        kind,
-        target,
-        source,
-    } = flow;
-    let numbers = format!(in heap; "flow {rule} {part} {kind} {target} {source}")?;
-    format!(in heap;
-        "{numbers}\n  r{source} of level {from} leaks to r{target} of level {to} by {way}: it is {reason}.\n"
-    )
+/// What lets a source flow to a target, in words.
+#[derive(Clone, Copy)]
+struct Reason(FlowKind);
+
+impl fmt::Display for Reason {
+    fn fmt<W: fmt::Write>(&self, f: &mut fmt::Formatter<W>) -> fmt::Result {
+        f.write_str(match self.0 {
+            FlowKind::Event => "an event",
+            FlowKind::Condition => "read by the condition",
+            FlowKind::Value => "read by the expression for the target",
+            FlowKind::Watched => "read by a clause that watches a target",
+            FlowKind::Clause => "read together with the target",
+        })
+    }
+}
+
+/// A forbidden flow of a book, with its numbers as the list has them.
+#[derive(Clone, Copy)]
+struct Leak<'a> {
+    book: &'a Book,
+    numbers: [u8; FLOW],
+}
+
+/// Two lines: the numbers, and a sentence. A kind that there is not would be taken for that of clauses.
+impl fmt::Display for Leak<'_> {
+    fn fmt<W: fmt::Write>(&self, f: &mut fmt::Formatter<W>) -> fmt::Result {
+        let [rule, part, kind, target, source] = self.numbers;
+        let way = Way::of(rule, part);
+        let reason = Reason(FlowKind::try_from(kind).unwrap_or(FlowKind::Clause));
+        let from = self.book.level_of(usize::from(source));
+        let to = self.book.level_of(usize::from(target));
+        writeln!(f, "flow {rule} {part} {kind} {target} {source}")?;
+        writeln!(
+            f,
+            "  r{source} of level {from} leaks to r{target} of level {to} by {way}: it is {reason}."
+        )
+    }
 }
 
 /// The lines of every flow of a list.
-fn listed(heap: Global, book: &Book, list: &[u8]) -> Result<String, AllocError> {
-    let mut text = String::new(heap);
-    let mut rest = list;
-    // Each flow takes five bytes.
-    for _ in 0..list.len() {
-        let [rule, part, kind, target, source, tail @ ..] = rest else {
-            break;
-        };
-        let flow = Flow {
-            rule: *rule,
-            part: *part,
-            kind: *kind,
-            target: *target,
-            source: *source,
-        };
-        let lines = lines(heap, book, flow)?;
-        text.push_str(lines.as_str())?;
-        rest = tail;
-    }
-    Ok(text)
+fn lines(heap: Global, book: &Book, list: &[u8]) -> Result<String, AllocError> {
+    let (flows, _) = list.as_chunks::<FLOW>();
+    flows
+        .iter()
+        .map(|&numbers| Leak { book, numbers }.to_string(heap))
+        .try_collect(heap)
 }
 
-/// The verdict on a draft: `accepted`, or each forbidden flow and then the refusal.
-pub fn judged<O: Order>(heap: Global, draft: &Draft, order: &O) -> Result<Answer, AllocError> {
+/// The verdict on a draft: `accepted`, or a failure with each forbidden flow.
+pub fn judged<O: Order>(
+    heap: Global,
+    draft: &Draft,
+    order: &O,
+) -> Result<String, Failure<'static>> {
     let Err(fault) = may_judge(draft, order) else {
-        return Ok(Answer::Done(String::from_str(heap, "accepted\n")?));
+        return Ok(String::from_str(heap, "accepted\n")?);
     };
-    let sentence = Sentence(fault);
     let mut room = vec![in heap; 0u8; LONGEST]?;
+    // Where a level is not one of the order's there is no list.
     let length = flows(draft, order, room.as_mut_slice()).unwrap_or(0);
-    let list = room.as_slice().get(0..length).unwrap_or(&[]);
-    let text = listed(heap, draft.book(), list)?;
-    Ok(Answer::Refused(format!(in heap; "{text}{fault}\n{sentence}\n")?))
+    let list = room.as_slice().get(..length).unwrap_or(&[]);
+    let leaks = lines(heap, draft.book(), list)?;
+    Err(Failure::NotAccepted { leaks, fault })
 }

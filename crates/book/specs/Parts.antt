@@ -1,7 +1,8 @@
 -- What a part is. Assumes nothing.
-use Rattle.std.specs.Prelude.{ℕ}
+use Rattle.std.specs.Prelude.{◌≡◌, ◌≢◌, ℕ, Result, MatchResult}
 use Rattle.book.specs.declared.part.Part.{Part}
 use Rattle.book.specs.declared.part.Part.TheVariants.{Default, Task}
+use Rattle.book.specs.declared.part.UnknownPart.{UnknownPart}
 use Rattle.book.specs.declared.rule.Action.{Action}
 use Rattle.book.specs.declared.rule.Rule.{Rule}
 
@@ -14,3 +15,7 @@ number Task = 1
 abbrev pub action_of : Rule → Part → Action
 action_of r Default = r.defaults
 action_of r Task = r.tasks
+
+-- the result is the part with this number, or an error with a number that no part has
+abbrev pub Decodes : ℕ → Result Part UnknownPart → Type 0
+Decodes n r = MatchResult r (λ part. number part ≡ n) (λ e. (e.0 ≡ n) × ((part : Part) → number part ≢ n))

@@ -2,7 +2,7 @@
 ghost use Rattle.std.specs.Prelude.{◌≡◌};
 ghost use Rattle.book.specs.Parts as parts;
 
-use super::part::Part;
+use super::part::{Part, UnknownPart};
 use super::rule::{Action, Rule};
 
 impl Part {
@@ -23,6 +23,21 @@ impl Part {
         match self {
             Part::Default => &rule.defaults,
             Part::Task => &rule.tasks,
+        }
+    }
+}
+
+/// The part that a number names.
+impl TryFrom<u8> for Part {
+    type Error = UnknownPart;
+
+    ghost try_from_gives = { parts.Decodes };
+
+    fn try_from(number: u8) -> Result<Part, UnknownPart> {
+        match number {
+            0 => Ok(Part::Default),
+            1 => Ok(Part::Task),
+            _ => Err(UnknownPart(number)),
         }
     }
 }

@@ -34,7 +34,7 @@ pub use checked::{
 };
 pub use draft::Draft;
 pub use opcode::front;
-pub use part::Part;
+pub use part::{Part, UnknownPart};
 pub use reader::read;
 pub use rule::{Action, Clause, Kind, Rule, SLOTS, Slot, Span};
 pub use sets::{reads, with_member};

@@ -6,3 +6,7 @@ pub enum Part {
     Default,
     Task,
 }
+
+/// A number that no part of a rule has.
+#[derive(Clone, Copy, PartialEq, Eq, Debug)]
+pub struct UnknownPart(pub u8);

@@ -14,3 +14,7 @@ pub enum FlowKind {
     /// A clause reads source and target.
     Clause = 5,
 }
+
+/// A number that no kind of flow has.
+#[derive(Clone, Copy, PartialEq, Eq, Debug)]
+pub struct UnknownFlowKind(pub u8);

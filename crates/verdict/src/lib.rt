@@ -16,7 +16,7 @@ mod put;
 mod row;
 
 pub use accepted::Accepted;
-pub use flow_kind::FlowKind;
+pub use flow_kind::{FlowKind, UnknownFlowKind};
 pub use gather::{received, targets};
 pub use judging::{flows, judge, may_judge};
 pub use landing::lands;
