@@ -1,6 +1,7 @@
 //! Whether each device has the cells that its rules need and its clauses read.
 ghost use Rattle.std.specs.Prelude.{◌≡◌, ◌<◌, All};
 ghost use Rattle.meaning.specs.Book as meant;
+ghost use Rattle.meaning.specs.Checks.{through};
 ghost use Rattle.meaning.specs.Reading.{carrier_checked, rule_cells_checked, clause_cells_checked, cells_checked};
 ghost use Rattle.book.specs.Means.{slot_means, action_means, rule_means};
 ghost use Rattle.book.specs.Plan.{plan, code_in};
@@ -68,6 +69,7 @@ impl File<'_> {
 
 impl Parsed<'_> {
     /// Each carrier of the rule `i` has the cells that the rule needs.
+    #[tactic(auto, unfolding(meaning::specs::Reading::rule_cells_checked))]
     fn rule(&self, i: usize) -> Result<(), Fault>
         requires { i < self.now.file.layout.rules }
         ensures { result ≡ rule_cells_checked self.now.file.bytes.now (plan self.now.file.layout) i tt }
@@ -99,11 +101,28 @@ impl Parsed<'_> {
         Ok(())
     }
 
+    /// The cells that rules need.
+    #[tactic(auto, unfolding(meaning::specs::Reading::rule_cells_checked))]
+    fn rules(&self) -> Result<(), Fault>
+        ensures { result ≡ through (rule_cells_checked self.now.file.bytes.now (plan self.now.file.layout)) self.now.file.layout.rules 0 tt }
+    {
+        through(self.file.layout.rules, (), |i, ()| self.rule(i))
+    }
+
+    /// The cells that clauses read.
+    #[tactic(auto, unfolding(meaning::specs::Reading::clause_cells_checked))]
+    fn clauses(&self) -> Result<(), Fault>
+        ensures { result ≡ through (clause_cells_checked self.now.file.bytes.now (plan self.now.file.layout)) self.now.file.layout.clauses 0 tt }
+    {
+        through(self.file.layout.clauses, (), |i, ()| self.clause(i))
+    }
+
     /// The cells that rules need, then those that clauses read.
+    #[tactic(auto, unfolding(meaning::specs::Reading::cells_checked))]
     pub fn cells(&self) -> Result<(), Fault>
         ensures { result ≡ cells_checked self.now.file.bytes.now (plan self.now.file.layout) }
     {
-        through(self.file.layout.rules, (), |i, ()| self.rule(i))?;
-        through(self.file.layout.clauses, (), |i, ()| self.clause(i))
+        self.rules()?;
+        self.clauses()
     }
 }

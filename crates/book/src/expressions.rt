@@ -1,6 +1,8 @@
 //! Whether the expressions of a book are right, in code order.
 ghost use Rattle.std.specs.Prelude.{◌≡◌, ◌+◌, ◌*◌, ◌^◌, ◌<◌, ◌≤◌, false, length, IfSome};
+ghost use Rattle.meaning.specs.Checks.{through};
 ghost use Rattle.meaning.specs.Expression.{named, wrong};
+ghost use Rattle.meaning.specs.Layout.{rules_from, clauses_from};
 ghost use Rattle.meaning.specs.Reading.{expression_checked, values_checked, rule_expressions_checked, expressions_checked};
 ghost use Rattle.book.specs.Plan.{plan};
 ghost use Rattle.book.specs.Scopes.{scoped};
@@ -91,27 +93,47 @@ impl File<'_> {
         )
     }
 
-    /// The expressions of the rule at `at`.
+    /// The expressions of the rule `i`.
     #[tactic(auto, unfolding(meaning::specs::Reading::rule_expressions_checked))]
-    fn rule_expressions(&self, at: usize) -> Result<(), Fault>
-        requires { at < 2 ^ 14 }
-        ensures { result ≡ rule_expressions_checked self.now.bytes.now (plan self.now.layout) at }
+    fn rule_expressions(&self, i: usize) -> Result<(), Fault>
+        requires { i < self.now.layout.rules }
+        ensures { result ≡ rule_expressions_checked self.now.bytes.now (plan self.now.layout) (rules_from (plan self.now.layout) + 53 * i) }
     {
+        let at = self.layout.rule_from(i);
         let remote = byte(self.bytes, at + 6) == 1;
         self.expression(remote, at + 9)?;
         self.values(false, at + 13, byte(self.bytes, at + 7))?;
         self.values(remote, at + 33, byte(self.bytes, at + 8))
     }
 
+    /// The expression of the clause `i`.
+    fn clause_expression(&self, i: usize) -> Result<(), Fault>
+        requires { i < self.now.layout.clauses }
+        ensures { result ≡ expression_checked self.now.bytes.now (plan self.now.layout) false (clauses_from (plan self.now.layout) + 5 * i + 1) }
+    {
+        self.expression(false, self.layout.clause_from(i) + 1)
+    }
+
+    /// The expressions of all rules.
+    fn expressions_of_rules(&self) -> Result<(), Fault>
+        ensures { result ≡ through (λ i _. rule_expressions_checked self.now.bytes.now (plan self.now.layout) (rules_from (plan self.now.layout) + 53 * i)) self.now.layout.rules 0 tt }
+    {
+        through(self.layout.rules, (), |i, ()| self.rule_expressions(i))
+    }
+
+    /// The expressions of all clauses.
+    fn expressions_of_clauses(&self) -> Result<(), Fault>
+        ensures { result ≡ through (λ i _. expression_checked self.now.bytes.now (plan self.now.layout) false (clauses_from (plan self.now.layout) + 5 * i + 1)) self.now.layout.clauses 0 tt }
+    {
+        through(self.layout.clauses, (), |i, ()| self.clause_expression(i))
+    }
+
     /// Every expression of the book.
+    #[tactic(auto, unfolding(meaning::specs::Reading::expressions_checked))]
     pub fn expressions(&self) -> Result<(), Fault>
         ensures { result ≡ expressions_checked self.now.bytes.now (plan self.now.layout) }
     {
-        through(self.layout.rules, (), |i, ()| {
-            self.rule_expressions(self.layout.rule_from(i))
-        })?;
-        through(self.layout.clauses, (), |i, ()| {
-            self.expression(false, self.layout.clause_from(i) + 1)
-        })
+        self.expressions_of_rules()?;
+        self.expressions_of_clauses()
     }
 }

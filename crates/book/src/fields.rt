@@ -1,5 +1,7 @@
 //! The fields of the sections, in file order, and that their pairs fill the code.
-ghost use Rattle.std.specs.Prelude.{◌≡◌, ◌^◌, ◌<◌, ◌≤◌};
+ghost use Rattle.std.specs.Prelude.{◌≡◌, ◌+◌, ◌*◌, ◌^◌, ◌<◌, ◌≤◌};
+ghost use Rattle.meaning.specs.Checks.{through};
+ghost use Rattle.meaning.specs.Layout.{rules_from, clauses_from};
 ghost use Rattle.meaning.specs.Sets.{some_under};
 ghost use Rattle.meaning.specs.Reading.{mask_checked, pair_checked, repeated, slot_checked, action_checked, head_checked, rule_checked, clause_checked, fields_checked};
 ghost use Rattle.book.specs.Plan.{plan};
@@ -80,6 +82,7 @@ impl File<'_> {
     }
 
     /// The four slots of the action at `at`, of which `count` are used.
+    #[tactic(auto, unfolding(meaning::specs::Reading::action_checked))]
     fn action(&self, at: usize, count: u8, next: u16) -> Result<u16, Fault>
         requires { at < 2 ^ 15 }
         ensures { result ≡ action_checked self.now.bytes.now (plan self.now.layout) at count next }
@@ -109,40 +112,60 @@ impl File<'_> {
         Err(refusal(BookCause::Field, at + wrong, 0))
     }
 
-    /// The rule at `at`, whose code begins at `next`.
+    /// The rule `i`, whose code begins at `next`.
     #[tactic(auto, unfolding(meaning::specs::Reading::rule_checked))]
-    fn rule(&self, at: usize, next: u16) -> Result<u16, Fault>
-        requires { at < 2 ^ 14 }
-        ensures { result ≡ rule_checked self.now.bytes.now (plan self.now.layout) at next }
+    fn rule(&self, i: usize, next: u16) -> Result<u16, Fault>
+        requires { i < self.now.layout.rules }
+        ensures { result ≡ rule_checked self.now.bytes.now (plan self.now.layout) (rules_from (plan self.now.layout) + 53 * i) next }
     {
+        let at = self.layout.rule_from(i);
         self.head(at)?;
         let next = self.pair(at + 9, next)?;
         let next = self.action(at + 13, byte(self.bytes, at + 7), next)?;
         self.action(at + 33, byte(self.bytes, at + 8), next)
     }
 
-    /// The clause at `at`, whose code begins at `next`.
-    fn clause(&self, at: usize, next: u16) -> Result<u16, Fault>
-        requires { at < 2 ^ 14 }
-        ensures { result ≡ clause_checked self.now.bytes.now (plan self.now.layout) at next }
+    /// The clause `i`, whose code begins at `next`.
+    fn clause(&self, i: usize, next: u16) -> Result<u16, Fault>
+        requires { i < self.now.layout.clauses }
+        ensures { result ≡ clause_checked self.now.bytes.now (plan self.now.layout) (clauses_from (plan self.now.layout) + 5 * i) next }
     {
+        let at = self.layout.clause_from(i);
         if usize::from(byte(self.bytes, at)) >= self.layout.devices {
             return Err(refusal(BookCause::Field, at, 0));
         }
         self.pair(at + 1, next)
     }
 
+    /// The masks of all devices.
+    fn masks(&self) -> Result<(), Fault>
+        ensures { result ≡ through (mask_checked self.now.bytes.now (plan self.now.layout)) self.now.layout.devices 0 tt }
+    {
+        through(self.layout.devices, (), |d, ()| self.mask(d))
+    }
+
+    /// All rules; the answer is where their code ends.
+    fn rules(&self) -> Result<u16, Fault>
+        ensures { result ≡ through (λ i. rule_checked self.now.bytes.now (plan self.now.layout) (rules_from (plan self.now.layout) + 53 * i)) self.now.layout.rules 0 0 }
+    {
+        through(self.layout.rules, 0, |i, next| self.rule(i, next))
+    }
+
+    /// All clauses, whose code begins at `next`; the answer is where it ends.
+    fn clauses(&self, next: u16) -> Result<u16, Fault>
+        ensures { result ≡ through (λ i. clause_checked self.now.bytes.now (plan self.now.layout) (clauses_from (plan self.now.layout) + 5 * i)) self.now.layout.clauses 0 next }
+    {
+        through(self.layout.clauses, next, |i, next| self.clause(i, next))
+    }
+
     /// Every field of the sections, and that no code is left over.
+    #[tactic(auto, unfolding(meaning::specs::Reading::fields_checked))]
     pub fn fields(&self) -> Result<(), Fault>
         ensures { result ≡ fields_checked self.now.bytes.now (plan self.now.layout) }
     {
-        through(self.layout.devices, (), |d, ()| self.mask(d))?;
-        let next = through(self.layout.rules, 0, |i, next| {
-            self.rule(self.layout.rule_from(i), next)
-        })?;
-        let end = through(self.layout.clauses, next, |i, next| {
-            self.clause(self.layout.clause_from(i), next)
-        })?;
+        self.masks()?;
+        let next = self.rules()?;
+        let end = self.clauses(next)?;
         if end != self.layout.room {
             return Err(refusal(
                 BookCause::Field,

@@ -5,7 +5,7 @@ use Rattle.meaning.specs.declared.instruction.Instruction.{Instruction}
 use Rattle.meaning.specs.Expression as meant
 use Rattle.meaning.specs.Expression.{Expression, decoded}
 use Rattle.meaning.specs.WellFormed.{every}
-use Rattle.book.proofs.Walk.{Took, took, spelt, shorter, spells_nothing}
+use Rattle.book.proofs.Walk.{Took, took, spelt, spells_nothing}
 use Rattle.book.specs.Sides.{read_of, reads_of, small, Small}
 use Rattle.book.specs.declared.sides.Side.{Side}
 use Rattle.book.specs.declared.sides.Side.TheVariants as side
@@ -42,9 +42,6 @@ loop-instruction-preserved c =
     let tail = decoded c.in-Some.tail.now in
     let first : reads_of s m (decoded c.loop-instruction.rest.now) ≡ reads_of s (read_of s m c.in-Some.instruction) tail = ap (reads_of s m) (spelt (now_took here)) ∙ reads_first s m c.in-Some.instruction tail in
     (ap (λ n. reads_of s n tail) c.with_read-set.ensures ∙ sym first ∙ c.loop-instruction.invariant.0, (now_small here).1)
-
-pub loop-instruction-smaller : goal.loop-instruction-smaller
-loop-instruction-smaller c = shorter (now_took (goal.at.loop-instruction-smaller c).In-Some)
 
 pub returns : goal.returns
 returns c =

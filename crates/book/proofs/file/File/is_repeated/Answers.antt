@@ -2,7 +2,7 @@
 use Rattle.std.proofs.Common.{◌≡◌, ℕ, zero, suc, ◌+◌, ◌*◌, ◌<◌, Bool, true, false, length, List, MatchBool, sym, refl, ap, ◌∙◌, ⊎_elim, subst, zero-add, arith, rules, tests}
 use Rattle.std.specs.List.{HoldsAt, AllWithin, range_with_len}
 use Rattle.std.proofs.lemmas.Bool.{cases_lt, eq-eqb, ne_eqb, or_from, or_left, or_right}
-use Rattle.std.proofs.lemmas.Iterator.{cases_from_any, YieldsList-from_range}
+use Rattle.std.proofs.lemmas.Iterator.{cases_from_any, serves_from_Range, YieldsList-from_range}
 use Rattle.std.proofs.lemmas.List.FromFn.{length-range_with_len, get_or-range_with_len}
 use Rattle.meaning.specs.Bytes.{byte_at}
 use Rattle.meaning.specs.Reading.{repeated}
@@ -39,3 +39,6 @@ returns c =
     let bs = c.args.self.now.bytes.now in
     decided bs c.args.at c.args.target c.any.result c.args.k
     (cases_from_any _ _ _ (Same bs c.args.at c.args.target) (λ j. Same bs c.args.at c.args.target j → ⊥) c.any.ensures.ran (YieldsList-from_range 0 c.args.k c.args.k (cc) (omega arith)) (λ j q e. search (rules, tests)) (λ j q e. search (rules, tests)))
+
+pub any-requires-clause-callable : goal.any-requires-clause-callable
+any-requires-clause-callable c = serves_from_Range (λ j q h. search rules) (λ j low high. search rules)
