@@ -10,10 +10,7 @@ impl Part {
     pub fn number(self) -> u8
         ensures { result ≡ parts.number self }
     {
-        match self {
-            Part::Default => 0,
-            Part::Task => 1,
-        }
+        self as u8
     }
 
     /// The action of a part.

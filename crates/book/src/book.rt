@@ -15,6 +15,7 @@ pub const CLAUSES: usize = 32;
 pub const CODE: usize = 20480;
 
 /// A book. Of each table the first entries are used: as many as its count says.
+// Fixed memory: each table beside its count, since a generic struct can hold no array of a type parameter.
 #[derive(PartialEq, Eq, Drop)]
 pub struct Book {
     pub device_count: usize,

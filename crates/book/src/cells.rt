@@ -32,6 +32,7 @@ impl File<'_> {
     }
 
     /// What the used slots of an action read, and their targets where they are wanted, beside the members of `set`.
+    // A flag, as the definition has one: with a closure in its place each call would say what it adds.
     fn gathered(&self, targets: bool, set: u32, action: &Action) -> u32
         requires { All SmallSlot (action_means (code_in self.now.bytes.now self.now.layout) action.now) }
         ensures { result ≡ meant.gathered targets set (action_means (code_in self.now.bytes.now self.now.layout) action.now) }

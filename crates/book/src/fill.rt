@@ -17,6 +17,7 @@ fn fill_table<T: Spelt>(table: &mut [T], bytes: &[u8], from: usize, size: usize,
     ensures { take count table.new ≡ map (λ k. T.Spelt.spelt bytes.now (from + size * k)) (range_with_len 0 count) }
 {
     let mut records = rest(bytes, from);
+    // By index, since of a slice that `iter_mut` lent a proof knows no element.
     for k in 0..count {
         table[k] = T::spelt_in(records);
         records = rest(records, size);

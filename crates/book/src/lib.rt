@@ -33,7 +33,7 @@ pub use checked::{
     NumberedClause, NumberedRule,
 };
 pub use draft::Draft;
-pub use opcode::front;
+pub use opcode::{Row, front, row_of};
 pub use part::{Part, UnknownPart};
 pub use reader::read;
 pub use rule::{Action, Clause, Kind, Rule, SLOTS, Slot, Span};

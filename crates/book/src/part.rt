@@ -3,8 +3,8 @@
 /// The default part of a rule, or its task part.
 #[derive(Clone, Copy, PartialEq, Eq, Debug)]
 pub enum Part {
-    Default,
-    Task,
+    Default = 0,
+    Task = 1,
 }
 
 /// A number that no part of a rule has.

@@ -18,6 +18,7 @@ pub struct Slot {
 }
 
 /// The assignments of a rule's default or task part: the first `count` slots.
+// Fixed memory: the slots beside their count.
 #[derive(Clone, Copy, PartialEq, Eq, Debug)]
 pub struct Action {
     pub count: u8,

@@ -138,6 +138,7 @@ impl<H: Host> Firing<'_, '_, H> {
     fn by_remote_task(&self, lanes: &mut Lanes)
         ensures { (M : Meets) → Routed M (means self.now.rule.of.book.now) self.now.rule.number self.now.route → view lanes.new ≡ settled M (means self.now.rule.of.book.now) (view lanes.old) (flat_map (by_task_for (means self.now.rule.of.book.now) (H.Host.table self.now.host.now) self.now.rule.number self.now.device) (range_with_len 0 (devices (means self.now.rule.of.book.now)))) }
     {
+        // The number is all that is wanted of a device.
         for receiver in 0..self.rule.of.book.used_cells().len() {
             self.by_task_for(lanes, receiver as u8);
         }

@@ -4,7 +4,8 @@ ghost use Rattle.meaning.specs.Expression as meant;
 ghost use Rattle.meaning.specs.Expression.{operated, pops};
 ghost use Rattle.meaning.specs.declared.instruction.Instruction.TheVariants.{Apply};
 
-use meaning::Operator;
+use book::row_of;
+use meaning::{Instruction, Operator};
 
 /// Each number but 0 counts as true.
 pub fn truth(value: i32) -> bool
@@ -14,15 +15,11 @@ pub fn truth(value: i32) -> bool
 }
 
 /// How many operands an operator takes.
-// `book` keeps the column of its opcode table that says so to itself.
 pub(crate) fn operands(operator: Operator) -> usize
     ensures table { result ≡ pops (Apply operator) }
     ensures some { 0 < result }
 {
-    match operator {
-        Operator::Not | Operator::Absolute => 1,
-        _ => 2,
-    }
+    usize::from(row_of(Instruction::Apply(operator)).pops)
 }
 
 /// What an operator gives of its operands; `a` was pushed first, and of one operand `b` is it.

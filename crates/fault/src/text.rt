@@ -10,6 +10,7 @@ impl Fault {
     pub fn number(&self) -> u32
         ensures { result ≡ number self.now.layer }
     {
+        // A table of the documents, with gaps: an enum inside an enum has no number of its own.
         match self.layer {
             Layer::Book(BookCause::Frame) => 1,
             Layer::Book(BookCause::Count) => 2,

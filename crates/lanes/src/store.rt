@@ -30,6 +30,7 @@ pub(crate) const IDLE: LaneState = LaneState {
 
 /// The lanes. Lane m has the stretch of the store that starts at 16 × m: the first records of it wait, the oldest first, as many
 /// as its state says.
+// Fixed memory: the records of all lanes in one array, of which a lane's stretch is lent.
 #[derive(Drop)]
 pub struct Lanes {
     pub(crate) store: [Update; STORE],

@@ -44,6 +44,7 @@ impl Case<'_> {
         ensures put { PutInto buffer.old buffer.new (filter (in_row (scaled self.now.scale.now) (means self.now.book.now) targets (λ t. slice_index sources.now t)) (of_kind (means self.now.book.now) row.rule row.part (kinds.number row.kind))) }
         ensures bound { buffer.new.at ≤ buffer.old.at + 5120 }
     {
+        // The number is what is wanted of a resource, for the set and for the flow.
         for target in 0..self.book.used_levels().len() {
             if (targets >> target) % 2 == 1 {
                 self.put_target(buffer, row, target as u8, sources[target]);
@@ -53,6 +54,7 @@ impl Case<'_> {
 }
 
 /// Puts the flows of a part of a rule, kind by kind.
+// The order stays beside the buffer here and below: inside it, each contract would have to say that it stays.
 fn put_part(scale: &Scale, buffer: &mut FlowBuffer<'_>, rule: &NumberedRule<'_>, part: Part)
     requires { buffer.old.at < 2 ^ 37 }
     ensures put { PutInto buffer.old buffer.new (filter (forbidden (scaled scale.now) (means rule.now.of.book.now)) (of_part (means rule.now.of.book.now) rule.now.number (parts.number part))) }

@@ -66,6 +66,7 @@ impl Case<'_> {
         ensures put { PutInto buffer.old buffer.new (filter (meant.leaks (scaled self.now.scale.now) (means self.now.book.now) sources) (to_target (means self.now.book.now) row.rule row.part (number row.kind) target)) }
         ensures bound { buffer.new.at ≤ buffer.old.at + 160 }
     {
+        // The number is what is wanted of a resource, for the set and for the flow.
         for source in 0..self.book.used_levels().len() {
             if self.leaks(sources, target, source) {
                 buffer.put(row, target, source as u8);

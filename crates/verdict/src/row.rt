@@ -5,6 +5,7 @@ use super::flow_kind::FlowKind;
 #[derive(Clone, Copy)]
 pub(crate) struct Row {
     pub rule: u8,
+    // A byte of the list and no `Part`, since a clause has none.
     pub part: u8,
     pub kind: FlowKind,
 }
