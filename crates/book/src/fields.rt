@@ -1,9 +1,10 @@
 //! The fields of the sections, in file order, and that their pairs fill the code.
-ghost use Rattle.std.specs.Prelude.{◌≡◌, ◌+◌, ◌*◌, ◌^◌, ◌<◌, ◌≤◌};
-ghost use Rattle.meaning.specs.Checks.{through};
+ghost use Rattle.std.specs.Prelude.{◌≡◌, ◌+◌, ◌*◌, ◌^◌, ◌<◌, ◌≤◌, Ok};
+ghost use Rattle.meaning.specs.Checks.{book_fault, require, through};
 ghost use Rattle.meaning.specs.Layout.{rules_from, clauses_from};
 ghost use Rattle.meaning.specs.Sets.{some_under};
 ghost use Rattle.meaning.specs.Reading.{mask_checked, pair_checked, repeated, slot_checked, action_checked, head_checked, rule_checked, clause_checked, fields_checked};
+ghost use Rattle.fault.specs.declared.fault.BookCause.TheVariants.{Field};
 ghost use Rattle.book.specs.Plan.{plan};
 
 use super::bytes::{byte, four, two};
@@ -22,6 +23,17 @@ fn some_under(set: u32, count: usize) -> bool
     set != 0 && u64::from(set) >> count == 0
 }
 
+/// A field is right, or else it is refused at its place.
+fn field(right: bool, at: usize) -> Result<(), Fault>
+    requires { at < 2 ^ 32 }
+    ensures { result ≡ require right (book_fault Field at 0) (Ok tt) }
+{
+    if right {
+        return Ok(());
+    }
+    Err(refusal(BookCause::Field, at, 0))
+}
+
 impl File<'_> {
     /// The mask of a device names only resources.
     fn mask(&self, d: usize) -> Result<(), Fault>
@@ -29,10 +41,8 @@ impl File<'_> {
         ensures { result ≡ mask_checked self.now.bytes.now (plan self.now.layout) d tt }
     {
         let at = self.layout.mask_from(d);
-        if u64::from(four(self.bytes, at)) >> self.layout.resources != 0 {
-            return Err(refusal(BookCause::Field, at, 0));
-        }
-        Ok(())
+        let cells = four(self.bytes, at);
+        field(u64::from(cells) >> self.layout.resources == 0, at)
     }
 
     /// A pair starts where the last ended and does not pass the code's end; the answer is where it ends.
@@ -42,9 +52,7 @@ impl File<'_> {
     {
         let code: Span = spelt_at(self.bytes, at);
         let end = u32::from(next) + u32::from(code.size);
-        if code.from != next || end > u32::from(self.layout.room) {
-            return Err(refusal(BookCause::Field, at, 0));
-        }
+        field(code.from == next && end <= u32::from(self.layout.room), at)?;
         Ok(end as u16)
     }
 
@@ -67,17 +75,12 @@ impl File<'_> {
         let place = at + 5 * k;
         let target = byte(self.bytes, place);
         if k < usize::from(count) {
-            if usize::from(target) >= self.layout.resources || self.is_repeated(at, target, k) {
-                return Err(refusal(BookCause::Field, place, 0));
-            }
+            let new = !self.is_repeated(at, target, k);
+            field(usize::from(target) < self.layout.resources && new, place)?;
             return self.pair(place + 1, next);
         }
-        if target != 0 {
-            return Err(refusal(BookCause::Field, place, 0));
-        }
-        if four(self.bytes, place + 1) != 0 {
-            return Err(refusal(BookCause::Field, place + 1, 0));
-        }
+        field(target == 0, place)?;
+        field(four(self.bytes, place + 1) == 0, place + 1)?;
         Ok(next)
     }
 
@@ -96,20 +99,13 @@ impl File<'_> {
         requires { at < 2 ^ 15 }
         ensures { result ≡ head_checked self.now.bytes.now (plan self.now.layout) at }
     {
-        let wrong = if !some_under(u32::from(two(self.bytes, at)), self.layout.devices) {
-            0
-        } else if !some_under(four(self.bytes, at + 2), self.layout.resources) {
-            2
-        } else if byte(self.bytes, at + 6) > 1 {
-            6
-        } else if byte(self.bytes, at + 7) > 4 {
-            7
-        } else if byte(self.bytes, at + 8) > 4 {
-            8
-        } else {
-            return Ok(());
-        };
-        Err(refusal(BookCause::Field, at + wrong, 0))
+        let carriers = u32::from(two(self.bytes, at));
+        let events = four(self.bytes, at + 2);
+        field(some_under(carriers, self.layout.devices), at)?;
+        field(some_under(events, self.layout.resources), at + 2)?;
+        field(byte(self.bytes, at + 6) < 2, at + 6)?;
+        field(byte(self.bytes, at + 7) <= 4, at + 7)?;
+        field(byte(self.bytes, at + 8) <= 4, at + 8)
     }
 
     /// The rule `i`, whose code begins at `next`.
@@ -131,9 +127,7 @@ impl File<'_> {
         ensures { result ≡ clause_checked self.now.bytes.now (plan self.now.layout) (clauses_from (plan self.now.layout) + 5 * i) next }
     {
         let at = self.layout.clause_from(i);
-        if usize::from(byte(self.bytes, at)) >= self.layout.devices {
-            return Err(refusal(BookCause::Field, at, 0));
-        }
+        field(usize::from(byte(self.bytes, at)) < self.layout.devices, at)?;
         self.pair(at + 1, next)
     }
 
@@ -166,13 +160,9 @@ impl File<'_> {
         self.masks()?;
         let next = self.rules()?;
         let end = self.clauses(next)?;
-        if end != self.layout.room {
-            return Err(refusal(
-                BookCause::Field,
-                self.layout.code_from() + usize::from(end),
-                0,
-            ));
-        }
-        Ok(())
+        field(
+            end == self.layout.room,
+            self.layout.code_from() + usize::from(end),
+        )
     }
 }
