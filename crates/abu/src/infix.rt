@@ -1,5 +1,5 @@
 //! Postfix code as infix text.
-use book::front;
+use book::Instructions;
 use meaning::{Instruction, Operator};
 use std::alloc::{AllocError, Global};
 
@@ -77,10 +77,8 @@ pub fn infix(heap: Global, code: &[u8]) -> Result<String, AllocError> {
         heap,
         texts: Vec::new(heap),
     };
-    let mut rest = code;
-    while let Some((instruction, tail)) = front(rest) {
+    for instruction in Instructions::of(code) {
         operands.push(instruction)?;
-        rest = tail;
     }
     operands.pop()
 }

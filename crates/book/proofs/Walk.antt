@@ -41,6 +41,10 @@ module _ {bs : List ℕ} {i : Instruction} {tail : List ℕ} (t : Took bs i tail
   judged s at depth =
       wrong_front s at depth bs _ t.here (some_byte i) ∙ ap (λ r. cond (may_stand s depth i) (wrong_after s 0 (at + length (encoded_instruction i)) (deepened depth i) r) (Some at)) (sym t.left)
 
+-- the instruction that is taken is the first that the code spells
+pub spells_first : (bs : List ℕ) (i : Instruction) (tail : List ℕ) → Some (i, tail) ≡ taken bs → decoded bs ≡ i ∷ decoded tail
+spells_first bs i tail told = spelt (took bs i tail told)
+
 no_front : (o : Option Front) (bs : List ℕ) → None ≡ past bs o → o ≡ None
 no_front None bs e = refl
 no_front (Some f) bs e = absurd (let z : ◌≡◌ {A = ℕ} 0 1 = cc in omega arith)

@@ -13,6 +13,7 @@ mod fields;
 mod file;
 mod fill;
 mod header;
+mod instructions;
 mod layout;
 mod offsets;
 mod opcode;
@@ -33,6 +34,7 @@ pub use checked::{
     NumberedClause, NumberedRule,
 };
 pub use draft::Draft;
+pub use instructions::Instructions;
 pub use opcode::{Row, front, row_of};
 pub use part::{Part, UnknownPart};
 pub use reader::read;

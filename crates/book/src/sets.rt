@@ -4,7 +4,7 @@ ghost use Rattle.meaning.specs.Expression.{decoded};
 ghost use Rattle.meaning.specs.Sets.{with_member};
 ghost use Rattle.book.specs.Sides.{read_of, reads_of, small, Small};
 
-use super::opcode::front;
+use super::instructions::Instructions;
 use super::sides::Side;
 use meaning::Instruction;
 
@@ -34,10 +34,8 @@ pub fn reads(set: u32, code: &[u8], side: Side) -> u32
     ensures { result ≡ reads_of side set (decoded code.now) }
 {
     let mut set = set;
-    let mut rest = code;
-    while let Some((instruction, tail)) = front(rest) {
+    for instruction in Instructions::of(code) {
         set = with_read(set, instruction, side);
-        rest = tail;
     }
     set
 }

@@ -9,7 +9,7 @@ ghost use Rattle.book.specs.Runnable.{Runnable};
 use super::operators::truth;
 use super::preview::Preview;
 use super::stack::{DEPTH, Stack};
-use book::front;
+use book::Instructions;
 use hosts::Host;
 use meaning::Instruction;
 
@@ -43,10 +43,8 @@ impl<H: Host> Evaluator<'_, H> {
         ensures { result ≡ value_at (shown H.Host.table self.now.preview) self.now.own self.now.receiver (decoded code.now) }
     {
         let mut stack = Stack::new();
-        let mut rest = code;
-        while let Some((instruction, tail)) = front(rest) {
+        for instruction in Instructions::of(code) {
             self.step(&mut stack, instruction);
-            rest = tail;
         }
         stack.below_top(0)
     }
