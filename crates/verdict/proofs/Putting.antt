@@ -51,13 +51,17 @@ pub put_at : {x y z : FlowBuffer} {fs : List Flow} → z ≡ y → PutInto x y f
 put_at {x} {y} {z} {fs} e p = subst (λ b. PutInto x b fs) (sym e) p
 
 -- what a filter keeps of a list, and then of another
-pub put-append : (p : Flow → Bool) (fs gs : List Flow) {x y z : FlowBuffer} → PutInto x y (filter p fs) → PutInto y z (filter p gs) → PutInto x z (filter p (fs ++ gs))
-put-append p fs gs first second = put_same (sym (filter-append p fs gs)) (put_both first second)
+pub put-append : (p : Flow → Bool) (fs gs : List Flow) {xs ys zs : List ℕ} {at mid end : ℕ} → Put xs ys at mid (filter p fs) → Put ys zs mid end (filter p gs) → Put xs zs at end (filter p (fs ++ gs))
+put-append p fs gs {xs} {ys} {zs} {at} {mid} {end} first second = subst (Put xs zs at end) (sym (filter-append p fs gs)) (both first second)
+
+-- the same of a buffer
+pub into-append : (p : Flow → Bool) (fs gs : List Flow) {x y z : FlowBuffer} → PutInto x y (filter p fs) → PutInto y z (filter p gs) → PutInto x z (filter p (fs ++ gs))
+into-append p fs gs first second = record { put = put-append p fs gs first.put second.put; lent = second.lent ∙ first.lent }
 
 -- what it keeps of the first block of a row, and then of the others
 pub put_first : (p : Flow → Bool) (f : ℕ → List Flow) (a n : ℕ) {x y z : FlowBuffer} → PutInto x y (filter p (f a)) → PutInto y z (filter p (flat_map f (range_with_len (a + 1) n))) → PutInto x z (filter p (flat_map f (range_with_len a (suc n))))
-put_first p f a n first second = put-append p (f a) (flat_map f (range_with_len (a + 1) n)) first second
+put_first p f a n first second = into-append p (f a) (flat_map f (range_with_len (a + 1) n)) first second
 
 -- what it keeps of a row, and then of its next block
 pub put_next : (p : Flow → Bool) (f : ℕ → List Flow) (n : ℕ) {x y z : FlowBuffer} → PutInto x y (filter p (flat_map f (range_with_len 0 n))) → PutInto y z (filter p (f n)) → PutInto x z (filter p (flat_map f (range_with_len 0 (n + 1))))
-put_next p f n first second = put_same (ap (filter p) (joined_one f n)) (put-append p (flat_map f (range_with_len 0 n)) (f n) first second)
+put_next p f n first second = put_same (ap (filter p) (joined_one f n)) (into-append p (flat_map f (range_with_len 0 n)) (f n) first second)

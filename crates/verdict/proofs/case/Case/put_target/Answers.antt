@@ -1,5 +1,5 @@
 -- Each turn puts the flow from one source, if it leaks, after those before it.
-use Rattle.std.proofs.Common.{ℕ, sym, ap, ◌∙◌, arith}
+use Rattle.std.proofs.Common.{◌≡◌, ℕ, ap, ◌∙◌, arith}
 use Rattle.meaning.specs.Flow.{Flow}
 use Rattle.meaning.specs.FlowList.{flow}
 use Rattle.levels.specs.Scales.{scaled}
@@ -21,7 +21,8 @@ loop-source-preserved c =
     let to : ℕ → Flow = flow row.rule row.part (number row.kind) c.args.target in
     let test = leaks (scaled case.scale.now) (means case.book.now) c.args.sources in
     let k = c.loop-source.source in
+    let told : test (to k) ≡ c.leaks.result = cc in
     elim c.if-leaks.branch [
-      | then-leaks w ↦ (put_at w.buffer-is (put_same (kept_one test to k (sym c.leaks.ensures ∙ w.if-leaks.true)) (put_both c.loop-source.invariant.0 w.put.ensures)), omega (arith, w.put.ensures.put.ends, ap (λ b. b.at) w.buffer-is))
-      | else-leaks w ↦ (put_at w.buffer-is (put_same (kept_no test to k (sym c.leaks.ensures ∙ w.if-leaks.false)) c.loop-source.invariant.0), omega (arith, ap (λ b. b.at) w.buffer-is))
+      | then-leaks w ↦ (put_at w.buffer-is (put_same (kept_one test to k (told ∙ w.if-leaks.true)) (put_both c.loop-source.invariant.0 w.put.ensures)), omega (arith, w.put.ensures.put.ends, ap (λ b. b.at) w.buffer-is))
+      | else-leaks w ↦ (put_at w.buffer-is (put_same (kept_no test to k (told ∙ w.if-leaks.false)) c.loop-source.invariant.0), omega (arith, ap (λ b. b.at) w.buffer-is))
     ]
