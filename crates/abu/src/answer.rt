@@ -8,12 +8,16 @@ use levels::{Ladder, SetOrder};
 use std::fs;
 use std::rt::Files;
 
-/// The book that a file holds.
-fn load<'a>(rt: &(impl Files + AllocGlobal), path: &'a str) -> Result<Draft, Failure<'a>> {
+/// Reads the book that a file holds into a draft.
+// The draft is lent, since it is large: one that is handed back would have room in each frame that it passes.
+fn load<'a>(
+    rt: &(impl Files + AllocGlobal),
+    path: &'a str,
+    draft: &mut Draft,
+) -> Result<(), Failure<'a>> {
     let bytes = fs::read(rt, path).map_err(|error| Failure::Unreadable { path, error })?;
-    let mut draft = Draft::smallest();
-    read(bytes.as_slice(), &mut draft)?;
-    Ok(draft)
+    read(bytes.as_slice(), draft)?;
+    Ok(())
 }
 
 /// The text of the answer to the command that the arguments spell.
@@ -22,11 +26,15 @@ pub fn answer<'a>(
     arguments: &'a [String],
 ) -> Result<String, Failure<'a>> {
     let heap = rt.alloc();
+    let mut draft = Draft::smallest();
     match Command::of(heap, arguments)? {
         Command::Help => Ok(String::from_str(heap, USAGE)?),
-        Command::Book { path } => Ok(record(heap, load(rt, path)?.book())?),
+        Command::Book { path } => {
+            load(rt, path, &mut draft)?;
+            Ok(record(heap, draft.book())?)
+        }
         Command::Verdict { order, path } => {
-            let draft = load(rt, path)?;
+            load(rt, path, &mut draft)?;
             match order {
                 AskedOrder::Ladder { levels } => judged(heap, &draft, &Ladder::new(levels)?),
                 AskedOrder::Sets { members } => judged(heap, &draft, &SetOrder::new(members)?),

@@ -6,7 +6,6 @@ use book::{Draft, read};
 use fault::Fault;
 use levels::{Ladder, Order, SetOrder};
 use std::alloc::{AllocError, Global};
-use std::str::FromStr;
 use std::{fmt, fs, io};
 use verdict::{flows, may_judge};
 
@@ -20,14 +19,12 @@ enum OrderKind {
     Sets,
 }
 
-impl FromStr for OrderKind {
-    type Err = ();
-
-    fn from_str(word: &str) -> Result<OrderKind, ()> {
+/// Every word but `ladder` is taken for that of sets, so that no line is passed over for it.
+impl From<&str> for OrderKind {
+    fn from(word: &str) -> OrderKind {
         match word {
-            "ladder" => Ok(OrderKind::Ladder),
-            "sets" => Ok(OrderKind::Sets),
-            _ => Err(()),
+            "ladder" => OrderKind::Ladder,
+            _ => OrderKind::Sets,
         }
     }
 }
@@ -39,14 +36,12 @@ enum Asked {
     Flows,
 }
 
-impl FromStr for Asked {
-    type Err = ();
-
-    fn from_str(word: &str) -> Result<Asked, ()> {
+/// Every word but `judge` is taken for that of the list, as with orders.
+impl From<&str> for Asked {
+    fn from(word: &str) -> Asked {
         match word {
-            "judge" => Ok(Asked::Judge),
-            "flows" => Ok(Asked::Flows),
-            _ => Err(()),
+            "judge" => Asked::Judge,
+            _ => Asked::Flows,
         }
     }
 }
@@ -70,9 +65,9 @@ impl<'a> Case<'a> {
         let (asked, expected) = rest.split_once(' ')?;
         Some(Case {
             book,
-            order: order.parse().ok()?,
+            order: OrderKind::from(order),
             size: size.parse().ok()?,
-            asked: asked.parse().ok()?,
+            asked: Asked::from(asked),
             expected,
         })
     }
@@ -128,11 +123,10 @@ fn said<O: Order + Drop>(
     }
 }
 
-/// The draft of a book's file, or the smallest one where the file is refused.
-fn draft_of(rt: &HostRuntime, name: &str) -> io::Result<Draft> {
-    let mut draft = Draft::smallest();
-    let _ = read(&file(rt, "books", name)?, &mut draft);
-    Ok(draft)
+/// Reads a book's file into a draft, which stays as it was where the file is refused.
+fn load(rt: &HostRuntime, name: &str, draft: &mut Draft) -> io::Result<()> {
+    let _ = read(&file(rt, "books", name)?, draft);
+    Ok(())
 }
 
 /// Each book of the list is judged, and its flows are listed, as the list says.
@@ -143,7 +137,8 @@ pub fn verdicts(tally: &mut Tally<'_>) -> io::Result<()> {
         let Some(case) = Case::of(line) else {
             continue;
         };
-        let draft = draft_of(rt, case.book)?;
+        let mut draft = Draft::smallest();
+        load(rt, case.book, &mut draft)?;
         let came = case.said(tally.heap(), &draft)?;
         tally.hold(line, case.expected, came.as_str())?;
     }
@@ -166,7 +161,8 @@ fn within(heap: Global, draft: &Draft, length: usize) -> Result<String, AllocErr
 
 /// A list of one flow in buffers of 4, 5 and 7 bytes: too short, exact, and with bytes beyond that stay.
 pub fn buffers(tally: &mut Tally<'_>) -> io::Result<()> {
-    let draft = draft_of(tally.rt, "kind-3")?;
+    let mut draft = Draft::smallest();
+    load(tally.rt, "kind-3", &mut draft)?;
     let cases = [
         ("too short", 4, "no 9 5 4 aaaaaaaa"),
         ("exact", 5, "5 0000030001"),
