@@ -61,7 +61,7 @@ module _ (s t : Scope) (more : s.resources ≤ t.resources) (wide : t.receiver �
       let (from, short) = and_parts (right_from s 0 e) (leb (length (encoded_expression e)) 64) h in
       and_from (right_from t 0 e) _ (from_wider 0 e from) short
 
-  action_wider : (ss : List meant.Slot) → right_action s ss ≡ true → right_action t ss ≡ true
+  pub action_wider : (ss : List meant.Slot) → right_action s ss ≡ true → right_action t ss ≡ true
   action_wider ss h =
       let (few, more-parts) = and_parts (leb (length ss) 4) _ h in
       let (targets, rest) = and_parts (every (λ (x : meant.Slot). ltb x.target s.resources) ss) _ more-parts in

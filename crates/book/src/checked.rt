@@ -21,7 +21,7 @@ pub struct CheckedCode<'a> {
     ghost right: { RightCode bytes.now },
 }
 
-/// An assignment of a well-formed book.
+/// An assignment to a resource below 32, of code that is right.
 #[derive(Clone, Copy)]
 pub struct CheckedSlot<'a> {
     pub book: &'a Book,
@@ -29,7 +29,7 @@ pub struct CheckedSlot<'a> {
     ghost right: { RightSlot book.now slot.now },
 }
 
-/// An action of a well-formed book.
+/// An action that is right in a book.
 #[derive(Clone, Copy)]
 pub struct CheckedAction<'a> {
     pub book: &'a Book,
@@ -63,7 +63,7 @@ pub struct CheckedClause<'a> {
     ghost near: { clause.now.device < 16 },
 }
 
-/// A clause of a well-formed book, with its number.
+/// A clause that is right in a book, with its number.
 #[derive(Clone, Copy)]
 pub struct NumberedClause<'a> {
     pub of: CheckedClause<'a>,

@@ -1,4 +1,5 @@
 pub mod Walks
+pub mod Sameness
 pub mod Meets
 pub mod Filling
 pub mod Formed

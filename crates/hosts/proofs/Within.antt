@@ -1,10 +1,13 @@
--- Masks of 32 bits have no cell past their devices or past their bits. Assumes nothing.
-use Rattle.std.proofs.Common.{◌≡◌, ℕ, ◌^◌, ◌<◌, ◌≤◌, true, false, List, length, get_or, ap, ◌∙◌, inl, inr, arith}
+-- Masks of 32 bits have no cell past their devices or past their bits, and each cell of a book that is well formed has a start. Assumes nothing.
+use Rattle.std.proofs.Common.{◌≡◌, ℕ, ◌^◌, ◌<◌, ◌≤◌, true, false, List, length, get_or, sym, ap, ◌∙◌, inl, inr, arith}
 use Rattle.std.proofs.lemmas.List.{get_or_past}
 use Rattle.std.proofs.lemmas.Bool.{both_ways, cases_lt}
+use Rattle.meaning.specs.Book.{Book, cells_of}
 use Rattle.meaning.specs.Sets.{has}
-use Rattle.hosts.specs.Words.{has_cell}
+use Rattle.meaning.specs.WellFormed.{WellFormed}
+use Rattle.hosts.specs.Words.{has_cell, word}
 use Rattle.hosts.proofs.Members.{none_beyond}
+use Rattle.hosts.proofs.Numbering.{word_inside, same_has, same_word}
 
 module _ (masks : List ℕ) (d r : ℕ) where
   pub no_device : length masks ≤ d → has_cell masks d r ≡ false
@@ -20,3 +23,7 @@ module _ (masks : List ℕ) (d r : ℕ) where
   pub low_resource : get_or masks d 0 < 2 ^ 32 → has_cell masks d r ≡ true → r < 32
   low_resource fits there =
       elim (cases_lt r 32) [ inl h ↦ h | inr h ↦ absurd (both_ways _ (no_resource fits h) there) ]
+
+  pub has_start : (b : Book) → WellFormed b → ((e : ℕ) → get_or masks e 0 ≡ cells_of b e) → has_cell masks d r ≡ true → word masks d r < length b.starts
+  has_start b formed agree there =
+      omega (arith, word_inside b.cells d r (sym (same_has masks b.cells agree d r) ∙ there), same_word masks b.cells agree d r, formed.2.2)

@@ -1,9 +1,15 @@
 -- To accept some and then others is to accept all of them together: what the first take is room that the others have no more, and a
--- count that has stopped stays. Assumes nothing.
-use Rattle.std.proofs.Common.{◌≡◌, ℕ, zero, suc, ◌+◌, ◌-◌, ◌<◌, ◌≤◌, min, List, [], ◌∷◌, ◌++◌, length, take, sym, ap, ◌∙◌, arith}
-use Rattle.std.proofs.lemmas.List.{append-nil, append_assoc, length-append, length-take, take_all}
-use Rattle.runs.specs.Lane.{Lane, lane_length, most_lost, room, let_in, accept}
+-- count that has stopped stays. Nothing that happens to a lane takes it past its bounds. Assumes nothing.
+use Rattle.std.proofs.Common.{◌≡◌, ℕ, zero, suc, ◌+◌, ◌-◌, ◌<◌, ◌≤◌, min, Bool, List, [], ◌∷◌, ◌++◌, length, take, sym, ap, ◌∙◌, arith}
+use Rattle.std.proofs.lemmas.List.{append-nil, append_assoc, length-append, length-take, length-drop, take_all}
+use Rattle.runs.specs.Lane.{Lane, lane_length, most_lost, room, let_in, accept, served, marked, with_lane}
+use Rattle.runs.proofs.Orderly.{with_lane_both}
 pub use Rattle.runs.proofs.Alike.{accept_none}
+
+-- at most 16 wait, and the count of the lost fits its place
+pub record Bounded {U : Type 0} (l : Lane U) : Type 0 where
+  pub short : length l.waiting ≤ lane_length
+  pub few_lost : l.lost ≤ most_lost
 
 module _ {U : Type 0} where
   take-append : (n : ℕ) (us vs : List U) → take n (us ++ vs) ≡ take n us ++ take (n - length us) vs
@@ -34,3 +40,16 @@ module _ {U : Type 0} where
       let line = ap (λ k. l.waiting ++ take k (u ∷ [])) none ∙ append-nil l.waiting in
       let losses : (accept l (u ∷ [])).lost ≡ min most_lost (l.lost + 1) = omega arith in
       λ i. record { waiting = line i; lost = losses i; out = l.out }
+
+  pub accept_bounded : (l : Lane U) (us : List U) → Bounded l → Bounded (accept l us)
+  accept_bounded l us h =
+      record { short = omega (arith, h.short, length-append l.waiting (let_in l us), length-take (room l) us); few_lost = omega arith }
+
+  pub served_bounded : (l : Lane U) → Bounded l → Bounded (served l)
+  served_bounded l h = record { short = omega (arith, h.short, length-drop 1 l.waiting); few_lost = h.few_lost }
+
+  pub marked_bounded : (t : Bool) (l : Lane U) → Bounded l → Bounded (marked t l)
+  marked_bounded t l h = record { short = h.short; few_lost = h.few_lost }
+
+  pub with_lane_bounded : (lanes : ℕ → Lane U) (m : ℕ) (l : Lane U) → Bounded l → ((n : ℕ) → Bounded (lanes n)) → (n : ℕ) → Bounded (with_lane lanes m l n)
+  with_lane_bounded lanes m l = with_lane_both (λ _. Bounded) lanes m l

@@ -8,18 +8,14 @@ use Rattle.lanes.specs.declared.store.LaneState.{LaneState}
 use Rattle.lanes.specs.declared.store.Lanes.{Lanes}
 use Rattle.lanes.specs.declared.update.Update.{Update}
 use Rattle.lanes.specs.Updates.{update_means}
+use Rattle.lanes.proofs.Accepting.{Bounded}
 use Rattle.lanes.specs.View.{line, idle, state_at, lane_in, view, first}
-use Rattle.runs.specs.Lane.{Lane, lane_length, most_lost, empty_lane, with_lane}
+use Rattle.runs.specs.Lane.{Lane, empty_lane, with_lane}
 use Rattle.runs.specs.Update as meant
 
 line_long : (store : List Update) (m n : ℕ) → length (map update_means (line store m n)) ≡ min n (length store - 16 * m)
 line_long store m n =
     length-map (line store m n) update_means ∙ length-take n _ ∙ ap (min n) (length-drop (16 * m) store)
-
--- at most 16 wait, and the count of the lost fits its place
-pub record Bounded {U : Type 0} (l : Lane U) : Type 0 where
-  pub short : length l.waiting ≤ lane_length
-  pub few_lost : l.lost ≤ most_lost
 
 pub view_bounded : (l : Lanes) (m : ℕ) → Bounded (view l m)
 unfolding view
